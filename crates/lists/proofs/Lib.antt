@@ -1,0 +1,8 @@
+-- The laws that the layers above cite.
+pub mod Bools
+pub mod Below
+pub mod Members
+pub mod Sets
+pub mod Select
+pub mod Order
+pub mod Cyclic

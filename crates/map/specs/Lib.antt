@@ -1,0 +1,4 @@
+pub mod Cells
+pub mod Siblings
+pub mod Groups
+pub mod Stars

@@ -1,0 +1,39 @@
+// The registers of numbers, each a type of its own: a mark's number, a cell's, a half-facet's.
+//
+// What is here: the three tuple structs, and a half-facet's number made and taken apart. What is
+// proved: each answer is an equation with specs/Half.antt; making and taking apart are inverse for
+// every cell below 65,536 and every local facet below 8 (proofs/Inverse.antt). What a caller should
+// know: a cell's number where a mark's is due does not compile.
+ghost use mathlib.Core.Path.{_≡_};
+ghost use Prim.Native.Nat.{_/_, _%_};
+ghost use Rattle.numbers.specs.Half.{halfOf};
+
+// A mark's number.
+pub struct Mark(pub u32);
+
+// A cell's number.
+pub struct Cell(pub u32);
+
+// A half-facet's number.
+pub struct Half(pub u32);
+
+// The number of a cell's local facet. Cells run below 65,536 and facets below 8; the rest is cut off.
+pub fn half_of(c: Cell, f: u32) -> Half
+    ensures { λ r. ⌜ r .0 ≡ halfOf (c .0 % 65536) (f % 8) ⌝ }
+{
+    Half(8 * (c.0 % 65536) + f % 8)
+}
+
+// The cell of a half-facet.
+pub fn cell_of(h: Half) -> Cell
+    ensures { λ r. ⌜ r .0 ≡ h .0 / 8 ⌝ }
+{
+    Cell(h.0 / 8)
+}
+
+// The local facet of a half-facet.
+pub fn facet_of(h: Half) -> u32
+    ensures { λ r. ⌜ r ≡ h .0 % 8 ⌝ }
+{
+    h.0 % 8
+}

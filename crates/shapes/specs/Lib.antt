@@ -1,0 +1,3 @@
+pub mod Shapes
+pub mod Table
+pub mod Facts

@@ -1,0 +1,25 @@
+-- The table as the code holds it: for each type its facets, each as the count of its corners and their places, padded
+-- with 0 to six facets of four corners.
+use mathlib.Core.Bool.{cond, _&&_}
+use mathlib.Core.List.{List, [], _∷_, _++_, map}
+use Prim.Native.Nat.{ℕ, _-_}
+use lib.Dec.{ltb}
+use lib.ListN.{getD, length, replicate}
+use Rattle.shapes.specs.Shapes.{Shape, shapes}
+
+-- the list, filled up with the padding to n
+unfoldable pub padded : {A : Type 0} → ℕ → A → List A → List A
+padded n fill l = l ++ replicate (n - length l) fill
+
+unfoldable pub facetRow : List ℕ → List ℕ
+facetRow ps = length ps ∷ padded 4 0 ps
+
+unfoldable pub typeRow : Shape → List (List ℕ)
+typeRow s = padded 6 (facetRow []) (map facetRow (s .facets))
+
+unfoldable pub table : List (List (List ℕ))
+table = map typeRow shapes
+
+-- what such a table holds at a type, a facet and a column; 0 outside
+unfoldable pub entry : List (List (List ℕ)) → ℕ → ℕ → ℕ → ℕ
+entry rows t f k = cond (ltb t 5 && ltb f 6 && ltb k 5) (getD (getD (getD rows t []) f []) k 0) 0

@@ -1,0 +1,80 @@
+// The types of cells as a table of tables: dimension, marks and facets of each type.
+//
+// What is here: `facet_table` gives the table, `corner_count` and `corner_place` read it; `dimension`,
+// `mark_count` and `facet_count` tell of a type. All are total: a code, a facet or a corner outside the
+// table reads as 0. What is proved: each answer is that of specs/Shapes.antt, and proofs/Facts.antt has
+// the facts of all facets, shown once over the whole table. What a caller should know: a table is
+// copied at each use of the constant, so take it once a call and hand the copy down.
+ghost use mathlib.Core.Path.{_≡_};
+ghost use Prim.Native.Nat.{_+_};
+ghost use Rattle.shapes.specs.Shapes.{shape, facetCount};
+ghost use Rattle.shapes.specs.Table.{table, entry};
+
+// How many codes the table has, 0 for no type among them; the facets and the columns of its rows.
+const TYPES: usize = 5;
+const ROWS: usize = 6;
+const COLUMNS: usize = 5;
+
+const DIMENSIONS: [u8; TYPES] = [0, 1, 2, 2, 3];
+const MARKS: [u8; TYPES] = [0, 2, 3, 4, 4];
+const FACETS: [u8; TYPES] = [0, 2, 3, 4, 4];
+
+// For each type its facets, each as the count of its corners and their places, padded with 0.
+const PLACES: [[[u8; COLUMNS]; ROWS]; TYPES] = [
+    [[0, 0, 0, 0, 0], [0, 0, 0, 0, 0], [0, 0, 0, 0, 0], [0, 0, 0, 0, 0], [0, 0, 0, 0, 0], [0, 0, 0, 0, 0]],
+    [[1, 0, 0, 0, 0], [1, 1, 0, 0, 0], [0, 0, 0, 0, 0], [0, 0, 0, 0, 0], [0, 0, 0, 0, 0], [0, 0, 0, 0, 0]],
+    [[2, 0, 1, 0, 0], [2, 1, 2, 0, 0], [2, 2, 0, 0, 0], [0, 0, 0, 0, 0], [0, 0, 0, 0, 0], [0, 0, 0, 0, 0]],
+    [[2, 0, 1, 0, 0], [2, 1, 2, 0, 0], [2, 2, 3, 0, 0], [2, 3, 0, 0, 0], [0, 0, 0, 0, 0], [0, 0, 0, 0, 0]],
+    [[3, 0, 2, 1, 0], [3, 0, 1, 3, 0], [3, 1, 2, 3, 0], [3, 2, 0, 3, 0], [0, 0, 0, 0, 0], [0, 0, 0, 0, 0]],
+];
+
+fn wide(x: u8) -> u32
+    ensures { λ r. ⌜ r ≡ x ⌝ }
+{
+    x as u32
+}
+
+// The whole table, by value.
+pub fn facet_table() -> [[[u8; COLUMNS]; ROWS]; TYPES]
+    ensures { λ r. ⌜ r ≡ table ⌝ }
+{
+    PLACES
+}
+
+// The dimension of a type; 0 for a code outside the table.
+pub fn dimension(t: u32) -> u32
+    ensures { λ r. ⌜ r ≡ shape t .dimension ⌝ }
+{
+    if t < 5 { wide(DIMENSIONS[t as usize]) } else { 0 }
+}
+
+// The count of a type's marks.
+pub fn mark_count(t: u32) -> u32
+    ensures { λ r. ⌜ r ≡ shape t .marks ⌝ }
+{
+    if t < 5 { wide(MARKS[t as usize]) } else { 0 }
+}
+
+// The count of a type's facets.
+pub fn facet_count(t: u32) -> u32
+    ensures { λ r. ⌜ r ≡ facetCount t ⌝ }
+{
+    if t < 5 { wide(FACETS[t as usize]) } else { 0 }
+}
+
+// The table's number at a type, a facet and a column: in column 0 the count of the facet's corners, in
+// column 1 + k the place of corner k.
+pub fn column(rows: &[[[u8; COLUMNS]; ROWS]; TYPES], t: u32, f: u32, k: u32) -> u32
+    ensures { λ r. ⌜ r ≡ entry (now (rows .entry)) t f k ⌝ }
+{
+    if 5 <= t {
+        return 0;
+    }
+    if 6 <= f {
+        return 0;
+    }
+    if 5 <= k {
+        return 0;
+    }
+    wide(rows[t as usize][f as usize][k as usize])
+}

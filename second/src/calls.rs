@@ -1,0 +1,386 @@
+//! Every call of the outline: its checks in the listed order, one line each,
+//! then the answer.
+//!
+//! "Checks run in this order: 14 first, save for format and build, then as
+//! follows. Format: 1, 2. Insert: 3, 4, 6, 7, 8, 9, 10, 11. Remove: 3, 5.
+//! Queries: 3, 5, 13, 6, 7, 8, 9, 12, those that apply." Numbers come in
+//! uncut, as whole 32-bit words. A half-facet is answered as its number.
+
+use crate::map::{self, Cell, HalfFacet, LiveCell, Mark};
+use crate::shapes::{type_with_code, Type, DIMENSIONS, HALF_FACETS_A_CELL, LOOKUP_MARKS};
+use crate::Refusal;
+
+/// "Capacities: 0 to 65,535 marks and 0 to 65,535 cells."
+pub const LARGEST_CAPACITY: u32 = 65_535;
+
+/// "A mark may stand in at most 128 live cells, all dimensions together."
+pub const CELLS_AT_A_MARK: usize = 128;
+
+/// "room = 16 + 8 × marks + 32 × cells"
+pub const HEAD_WORDS: usize = 16;
+pub const MARK_WORDS: usize = 8;
+pub const CELL_WORDS: usize = 32;
+
+/// The words a mesh of these capacities needs.
+pub fn room(marks: u32, cells: u32) -> usize {
+    HEAD_WORDS + MARK_WORDS * marks as usize + CELL_WORDS * cells as usize
+}
+
+/// A mesh: its two capacities and its live cells.
+#[derive(Clone, Debug, PartialEq, Eq)]
+pub struct Mesh {
+    pub marks: u32,
+    pub cells: u32,
+    pub live: Vec<LiveCell>,
+}
+
+/// Lent memory: how many words there are, and the mesh in them once a format
+/// or build has put one there.
+#[derive(Clone, Debug, PartialEq, Eq)]
+pub struct Memory {
+    pub words: usize,
+    pub mesh: Option<Mesh>,
+}
+
+/// "A walker over one sibling cycle holds its place and hands back its next
+/// place".
+#[derive(Clone, Copy, Debug, PartialEq, Eq)]
+pub struct Walker {
+    /// The number of the half-facet it stands at.
+    pub half: u32,
+}
+
+impl Mesh {
+    /// A mesh of these capacities with no live cell.
+    pub fn formatted(marks: u32, cells: u32) -> Mesh {
+        let live = Vec::new();
+        Mesh { marks, cells, live }
+    }
+}
+
+impl Memory {
+    /// Memory of so many words that is not a mesh.
+    pub fn lent(words: usize) -> Memory {
+        Memory { words, mesh: None }
+    }
+
+    /// Format: 1, 2.
+    pub fn format(&mut self, marks: u32, cells: u32) -> Result<(), Refusal> {
+        capacities_in_range(marks, cells)?;
+        room_fits(self.words, marks, cells)?;
+        self.mesh = Some(Mesh::formatted(marks, cells));
+        Ok(())
+    }
+
+    /// "Build does format, then inserts in order. At the first refused record
+    /// it answers number and record place (from 0) and leaves a formatted mesh
+    /// with no live cell. Refusals 1 and 2 come with place 0 and change
+    /// nothing."
+    pub fn build(
+        &mut self,
+        marks: u32,
+        cells: u32,
+        records: &[u32],
+    ) -> Result<(), (Refusal, usize)> {
+        self.format(marks, cells).map_err(|refusal| (refusal, 0))?;
+        let mut left = records;
+        let mut place = 0;
+        while !left.is_empty() {
+            match self.insert_record(left) {
+                Ok(after) => left = after,
+                Err(refusal) => {
+                    self.change(Vec::clear);
+                    return Err((refusal, place));
+                }
+            }
+            place += 1;
+        }
+        Ok(())
+    }
+
+    /// "A build record is a cell number, a type code, then that type's marks.
+    /// A record's checks run 7 for a missing number or code, then 3, 4, 6, 7, 8
+    /// and so on." Answers the words after the record. A record cut short is an
+    /// insert with too few marks, and one of unknown type has none to count.
+    fn insert_record<'a>(&mut self, words: &'a [u32]) -> Result<&'a [u32], Refusal> {
+        let [cell, code, left @ ..] = words else {
+            return Err(Refusal::WrongCount);
+        };
+        let due = type_with_code(*code).map_or(0, |row| row.marks);
+        let (marks, after) = left.split_at(due.min(left.len()));
+        self.insert(*cell, *code, marks)?;
+        Ok(after)
+    }
+
+    /// Insert: 14, 3, 4, 6, 7, 8, 9, 10, 11.
+    pub fn insert(&mut self, cell: u32, code: u32, marks: &[u32]) -> Result<(), Refusal> {
+        let mesh = self.held()?;
+        let number = cell_below_capacity(mesh, cell)?;
+        not_live(mesh, number)?;
+        let row = known_type(code)?;
+        count_for_type(row, marks)?;
+        let marks = marks_below_capacity(mesh, marks)?;
+        each_once(&marks)?;
+        no_same_cell(mesh, row, &marks)?;
+        no_full_mark(mesh, &marks)?;
+        self.change(|live| live.push(LiveCell { number, row, marks }));
+        Ok(())
+    }
+
+    /// Remove: 14, 3, 5.
+    pub fn remove(&mut self, cell: u32) -> Result<(), Refusal> {
+        let mesh = self.held()?;
+        let number = cell_below_capacity(mesh, cell)?;
+        is_live(mesh, number)?;
+        self.change(|live| live.retain(|cell| cell.number != number));
+        Ok(())
+    }
+
+    /// The type code of a cell: 14, 3, 5.
+    pub fn type_of(&self, cell: u32) -> Result<u32, Refusal> {
+        Ok(self.queried_cell(cell)?.row.code)
+    }
+
+    /// The marks of a live cell, in the order given at insertion; "where the
+    /// type query refuses, that part is empty".
+    pub fn marks_of(&self, cell: u32) -> Vec<u32> {
+        match self.queried_cell(cell) {
+            Ok(cell) => cell.marks.iter().map(|mark| mark.0).collect(),
+            Err(_) => Vec::new(),
+        }
+    }
+
+    /// Sibling: 14, 3, 5, 13.
+    pub fn sibling(&self, cell: u32, facet: u32) -> Result<u32, Refusal> {
+        let half = self.queried_half_facet(cell, facet)?;
+        Ok(map::sibling(&self.held()?.live, &half).number())
+    }
+
+    /// Whole cycle from a half-facet: 14, 3, 5, 13, 12.
+    pub fn cycle(&self, cell: u32, facet: u32, room: usize) -> Result<Vec<u32>, Refusal> {
+        let half = self.queried_half_facet(cell, facet)?;
+        let cycle = map::cycle(&self.held()?.live, &half);
+        list_fits(half_facet_numbers(&cycle), room)
+    }
+
+    /// Border or not: 14, 3, 5, 13.
+    pub fn border(&self, cell: u32, facet: u32) -> Result<bool, Refusal> {
+        let half = self.queried_half_facet(cell, facet)?;
+        Ok(map::border(&self.held()?.live, &half))
+    }
+
+    /// Star: 14, 6, 8, 12.
+    pub fn star(&self, dimension: u32, mark: u32, room: usize) -> Result<Vec<u32>, Refusal> {
+        let mesh = self.held()?;
+        known_dimension(dimension)?;
+        let mark = mark_below_capacity(mesh, mark)?;
+        let star = map::star(&mesh.live, dimension, mark);
+        list_fits(cell_numbers(&star), room)
+    }
+
+    /// Anchors: 14, 6, 8, 12.
+    pub fn anchors(&self, dimension: u32, mark: u32, room: usize) -> Result<Vec<u32>, Refusal> {
+        let mesh = self.held()?;
+        known_dimension(dimension)?;
+        let mark = mark_below_capacity(mesh, mark)?;
+        let anchors = map::anchors(&mesh.live, dimension, mark);
+        list_fits(half_facet_numbers(&anchors), room)
+    }
+
+    /// First anchor: 14, 6, 8.
+    pub fn first_anchor(&self, dimension: u32, mark: u32) -> Result<Option<u32>, Refusal> {
+        let mesh = self.held()?;
+        known_dimension(dimension)?;
+        let mark = mark_below_capacity(mesh, mark)?;
+        let first = map::first_anchor(&mesh.live, dimension, mark);
+        Ok(first.map(|half| half.number()))
+    }
+
+    /// Neighbours: 14, 3, 5, 12.
+    pub fn neighbours(&self, cell: u32, room: usize) -> Result<Vec<u32>, Refusal> {
+        let cell = self.queried_cell(cell)?;
+        let neighbours = map::neighbours(&self.held()?.live, cell);
+        list_fits(cell_numbers(&neighbours), room)
+    }
+
+    /// Lookup by mark set: 14, 7, 8, 9.
+    pub fn lookup(&self, set: &[u32]) -> Result<Option<u32>, Refusal> {
+        let mesh = self.held()?;
+        count_for_lookup(set)?;
+        let set = marks_below_capacity(mesh, set)?;
+        each_once(&set)?;
+        Ok(map::lookup(&mesh.live, &set).map(|half| half.number()))
+    }
+
+    /// The live cells of a type: 14, 6, 12.
+    pub fn cells_of_type(&self, code: u32, room: usize) -> Result<Vec<u32>, Refusal> {
+        let mesh = self.held()?;
+        let row = known_type(code)?;
+        let cells = map::cells_of_type(&mesh.live, row);
+        list_fits(cell_numbers(&cells), room)
+    }
+
+    /// The count of the live cells of a type: 14, 6.
+    pub fn count_of_type(&self, code: u32) -> Result<usize, Refusal> {
+        let mesh = self.held()?;
+        let row = known_type(code)?;
+        Ok(map::cells_of_type(&mesh.live, row).len())
+    }
+
+    /// "The whole check never refuses".
+    pub fn whole(&self) -> bool {
+        self.held().is_ok()
+    }
+
+    /// 14: "memory is under 16 words, or its head gives no capacities or gives
+    /// ones whose room does not fit".
+    fn held(&self) -> Result<&Mesh, Refusal> {
+        self.mesh
+            .as_ref()
+            .filter(|mesh| room(mesh.marks, mesh.cells) <= self.words)
+            .ok_or(Refusal::NotMesh)
+    }
+
+    /// Makes an edit whose checks have all passed.
+    fn change(&mut self, edit: impl FnOnce(&mut Vec<LiveCell>)) {
+        if let Some(mesh) = self.mesh.as_mut() {
+            edit(&mut mesh.live);
+        }
+    }
+
+    /// The checks 14, 3, 5 of a query about a cell.
+    fn queried_cell(&self, cell: u32) -> Result<&LiveCell, Refusal> {
+        let mesh = self.held()?;
+        let number = cell_below_capacity(mesh, cell)?;
+        is_live(mesh, number)
+    }
+
+    /// The checks 14, 3, 5, 13 of a query about a half-facet.
+    fn queried_half_facet(&self, cell: u32, facet: u32) -> Result<HalfFacet, Refusal> {
+        let cell = self.queried_cell(cell)?;
+        facet_below_count(cell, facet)
+    }
+}
+
+impl Walker {
+    /// "After an edit a step gives the sibling as it is then, or the refusal
+    /// for that half-facet": 14, 3, 5, 13.
+    pub fn step(&self, memory: &Memory) -> Result<Walker, Refusal> {
+        let cell = self.half / HALF_FACETS_A_CELL;
+        let facet = self.half % HALF_FACETS_A_CELL;
+        memory.sibling(cell, facet).map(|half| Walker { half })
+    }
+}
+
+/// 1: "a capacity is above 65,535"
+fn capacities_in_range(marks: u32, cells: u32) -> Result<(), Refusal> {
+    let above = marks > LARGEST_CAPACITY || cells > LARGEST_CAPACITY;
+    refuse_if(above, Refusal::CapacityTooLarge)
+}
+
+/// 2: "at format or build, memory is shorter than the room"
+fn room_fits(words: usize, marks: u32, cells: u32) -> Result<(), Refusal> {
+    refuse_if(words < room(marks, cells), Refusal::MemoryTooShort)
+}
+
+/// 3: "a cell number is not below the capacity"
+fn cell_below_capacity(mesh: &Mesh, cell: u32) -> Result<Cell, Refusal> {
+    refuse_if(cell >= mesh.cells, Refusal::UnknownCell)?;
+    Ok(Cell(cell))
+}
+
+/// 4: "insert: the number is live"
+fn not_live(mesh: &Mesh, number: Cell) -> Result<(), Refusal> {
+    let live = map::live_cell(&mesh.live, number).is_some();
+    refuse_if(live, Refusal::CellLive)
+}
+
+/// 5: "the cell is not live"
+fn is_live(mesh: &Mesh, number: Cell) -> Result<&LiveCell, Refusal> {
+    map::live_cell(&mesh.live, number).ok_or(Refusal::CellNotLive)
+}
+
+/// 6: "type code not in the table"
+fn known_type(code: u32) -> Result<&'static Type, Refusal> {
+    type_with_code(code).ok_or(Refusal::UnknownType)
+}
+
+/// 6: "or dimension not 1 to 3"
+fn known_dimension(dimension: u32) -> Result<(), Refusal> {
+    refuse_if(!DIMENSIONS.contains(&dimension), Refusal::UnknownType)
+}
+
+/// 7: "wrong count of marks for the type"
+fn count_for_type(row: &Type, marks: &[u32]) -> Result<(), Refusal> {
+    refuse_if(marks.len() != row.marks, Refusal::WrongCount)
+}
+
+/// 7: "or the lookup"
+fn count_for_lookup(set: &[u32]) -> Result<(), Refusal> {
+    refuse_if(!LOOKUP_MARKS.contains(&set.len()), Refusal::WrongCount)
+}
+
+/// 8: "a mark is not below the capacity"
+fn mark_below_capacity(mesh: &Mesh, mark: u32) -> Result<Mark, Refusal> {
+    refuse_if(mark >= mesh.marks, Refusal::UnknownMark)?;
+    Ok(Mark(mark))
+}
+
+/// 8 over a list: "each check looks at all marks before the next check starts"
+fn marks_below_capacity(mesh: &Mesh, marks: &[u32]) -> Result<Vec<Mark>, Refusal> {
+    marks
+        .iter()
+        .map(|&mark| mark_below_capacity(mesh, mark))
+        .collect()
+}
+
+/// 9: "a mark occurs twice"
+fn each_once(marks: &[Mark]) -> Result<(), Refusal> {
+    let twice = (1..marks.len()).any(|place| marks[..place].contains(&marks[place]));
+    refuse_if(twice, Refusal::RepeatedMark)
+}
+
+/// 10: "a live cell of that type has the same set of marks"
+fn no_same_cell(mesh: &Mesh, row: &Type, marks: &[Mark]) -> Result<(), Refusal> {
+    let of_type = map::cells_of_type(&mesh.live, row);
+    let same = of_type.iter().any(|cell| map::same_set(&cell.marks, marks));
+    refuse_if(same, Refusal::SameMarks)
+}
+
+/// 11: "one of the marks stands in 128 live cells already"
+fn no_full_mark(mesh: &Mesh, marks: &[Mark]) -> Result<(), Refusal> {
+    let full = marks
+        .iter()
+        .any(|&mark| map::cells_at(&mesh.live, mark) >= CELLS_AT_A_MARK);
+    refuse_if(full, Refusal::MarkFull)
+}
+
+/// 12: "output buffer shorter than the list"
+fn list_fits(list: Vec<u32>, room: usize) -> Result<Vec<u32>, Refusal> {
+    refuse_if(room < list.len(), Refusal::BufferTooShort)?;
+    Ok(list)
+}
+
+/// 13: "local facet not below the type's count"
+fn facet_below_count(cell: &LiveCell, facet: u32) -> Result<HalfFacet, Refusal> {
+    map::half_facets_of(cell)
+        .into_iter()
+        .find(|half| half.facet == facet)
+        .ok_or(Refusal::UnknownFacet)
+}
+
+fn refuse_if(condition: bool, refusal: Refusal) -> Result<(), Refusal> {
+    if condition {
+        Err(refusal)
+    } else {
+        Ok(())
+    }
+}
+
+fn cell_numbers(cells: &[&LiveCell]) -> Vec<u32> {
+    cells.iter().map(|cell| cell.number.0).collect()
+}
+
+fn half_facet_numbers(half_facets: &[HalfFacet]) -> Vec<u32> {
+    half_facets.iter().map(HalfFacet::number).collect()
+}

@@ -1,0 +1,22 @@
+//! The second program: the outline by its definitions, in plain Rust.
+//!
+//! It exists to be compared with. So it stores no link and keeps no answer: a
+//! mesh is two capacities and a list of live cells, and every question scans
+//! that list as the outline's sentence says.
+//!
+//! - [`shapes`]: the type table; a new type is one more row.
+//! - [`map`]: the definitions over the list of live cells.
+//! - [`refusal`]: the refusal numbers.
+//! - [`calls`]: every call, its checks in the listed order, then the answer.
+//! - [`frames`]: the frame program, from input bytes to output bytes.
+
+#![forbid(unsafe_code)]
+
+pub mod calls;
+pub mod frames;
+pub mod map;
+pub mod refusal;
+pub mod shapes;
+
+pub use calls::{room, Memory, Mesh, Walker};
+pub use refusal::Refusal;

@@ -1,0 +1,119 @@
+//! Small maps, among them those of the outline's twelve cases.
+
+use second::{room, Memory};
+
+pub const BAR: u32 = 1;
+pub const TRI: u32 = 2;
+pub const QUAD: u32 = 3;
+pub const TETRA: u32 = 4;
+
+/// A list room that no list of these maps outgrows.
+pub const PLENTY: usize = 1000;
+
+/// Cell number, type code, marks.
+pub type Record<'a> = (u32, u32, &'a [u32]);
+
+/// A mesh with no live cell, in memory of exactly its room.
+pub fn formatted(marks: u32, cells: u32) -> Memory {
+    let mut memory = Memory::lent(room(marks, cells));
+    memory.format(marks, cells).expect("the room is exact");
+    memory
+}
+
+/// A mesh with these cells inserted in this order.
+pub fn mesh(marks: u32, cells: u32, records: &[Record]) -> Memory {
+    let mut memory = formatted(marks, cells);
+    for &(cell, code, marks) in records {
+        memory.insert(cell, code, marks).expect("a good record");
+    }
+    memory
+}
+
+/// The records as one list of words, as build takes them.
+pub fn words(records: &[Record]) -> Vec<u32> {
+    let mut words = Vec::new();
+    for &(cell, code, marks) in records {
+        words.extend([cell, code]);
+        words.extend(marks);
+    }
+    words
+}
+
+/// A mark that 128 bars hold: mark 10, in cells 1 to 128, whose other ends are
+/// the marks 20 to 147. Cell 0 is the triangle (0,1,2). Capacities 200.
+pub fn full_mark_records() -> Vec<(u32, u32, Vec<u32>)> {
+    let mut records = vec![(0, TRI, vec![0, 1, 2])];
+    records.extend((0..128).map(|bar| (1 + bar, BAR, vec![10, 20 + bar])));
+    records
+}
+
+pub fn with_full_mark() -> Memory {
+    let mut memory = formatted(200, 200);
+    for (cell, code, marks) in full_mark_records() {
+        memory.insert(cell, code, &marks).expect("up to 128 fit");
+    }
+    memory
+}
+
+pub fn p1() -> Memory {
+    mesh(6, 4, &[])
+}
+
+pub fn p2() -> Memory {
+    mesh(6, 4, &[(0, TRI, &[0, 1, 2])])
+}
+
+pub fn p3() -> Memory {
+    mesh(6, 4, &[(0, TRI, &[0, 1, 2]), (1, TRI, &[2, 1, 3])])
+}
+
+pub fn p4() -> Memory {
+    mesh(
+        6,
+        4,
+        &[
+            (0, TRI, &[0, 1, 2]),
+            (1, TRI, &[0, 1, 3]),
+            (2, TRI, &[0, 1, 4]),
+        ],
+    )
+}
+
+pub fn p5() -> Memory {
+    mesh(6, 4, &[(0, TRI, &[0, 1, 2]), (1, TRI, &[0, 3, 4])])
+}
+
+pub fn p6() -> Memory {
+    mesh(
+        6,
+        4,
+        &[(0, TETRA, &[0, 1, 2, 3]), (1, TETRA, &[0, 2, 1, 4])],
+    )
+}
+
+pub fn p7() -> Memory {
+    mesh(
+        6,
+        4,
+        &[
+            (0, TRI, &[0, 2, 1]),
+            (1, TRI, &[0, 1, 3]),
+            (2, TRI, &[1, 2, 3]),
+            (3, TRI, &[2, 0, 3]),
+        ],
+    )
+}
+
+pub fn p8() -> Memory {
+    mesh(6, 4, &[(0, BAR, &[0, 1]), (1, BAR, &[1, 2])])
+}
+
+pub fn p9() -> Memory {
+    let mut memory = p4();
+    memory.remove(1).expect("cell 1 is live");
+    memory
+}
+
+pub fn p12() -> Memory {
+    mesh(6, 4, &[(0, TRI, &[0, 1, 2]), (1, TETRA, &[0, 1, 2, 3])])
+}

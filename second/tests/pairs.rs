@@ -1,0 +1,432 @@
+//! Every pair of faults that can occur together in one call: the one earlier
+//! in the listed order is answered. Each argument takes a good value and small
+//! changes of it, each with the faults it brings; every combination is called.
+//!
+//! Without a mesh there are no capacities, so what stands for 3 or 8 there is
+//! a number above every capacity.
+
+mod common;
+
+use common::maps::*;
+use common::pairs::{Pairs, MISSING};
+use second::{room, Memory, Refusal, Walker};
+
+/// A value of an argument and the faults it brings.
+type Choice<T> = (T, &'static [u8]);
+
+const ABOVE_ALL: u32 = 70_000;
+const NO_LIVE_CELL: &str = "without a mesh no cell is live";
+const LIVE_IS_BELOW: &str = "a live number is below the capacity";
+const NO_CELL_OF_IT: &str = "no live cell is of an unknown type";
+const LIVE_MARKS_ARE_BELOW: &str = "the marks of a live cell are below the capacity";
+const LIVE_MARKS_DIFFER: &str =
+    "the marks of a live cell are all different, so a list with a repeat and \
+     the same set is longer, and 7 comes first";
+
+/// Two triangles that share an edge, a removed cell, capacities 6 and 4; and
+/// memory without a mesh.
+fn memories() -> [Choice<Memory>; 2] {
+    let mut memory = p4();
+    memory.remove(1).unwrap();
+    [(memory, &[]), (Memory::lent(1000), &[14])]
+}
+
+/// A number that is not below the capacity is not live either.
+fn cells() -> [Choice<u32>; 4] {
+    [(0, &[]), (1, &[5]), (4, &[3, 5]), (ABOVE_ALL, &[3, 5])]
+}
+
+fn facets() -> [Choice<u32>; 3] {
+    [(0, &[]), (8, &[13]), (u32::MAX, &[13])]
+}
+
+/// No list asked for here is empty unless something else is wrong.
+fn rooms() -> [Choice<usize>; 2] {
+    [(PLENTY, &[]), (0, &[12])]
+}
+
+fn dimensions() -> [Choice<u32>; 4] {
+    [(2, &[]), (0, &[6]), (4, &[6]), (258, &[6])]
+}
+
+fn marks() -> [Choice<u32>; 3] {
+    [(0, &[]), (6, &[8]), (ABOVE_ALL, &[8])]
+}
+
+fn codes() -> [Choice<u32>; 4] {
+    [(TRI, &[]), (0, &[6]), (9, &[6]), (258, &[6])]
+}
+
+/// Capacities and words.
+fn lent_for_200() -> [Choice<(u32, u32, usize)>; 6] {
+    let exact = room(200, 200);
+    let plenty = 10_000_000;
+    [
+        ((200, 200, exact), &[]),
+        ((ABOVE_ALL, 200, plenty), &[1]),
+        ((200, ABOVE_ALL, plenty), &[1]),
+        ((200, 200, exact - 1), &[2]),
+        ((ABOVE_ALL, 200, exact), &[1, 2]),
+        ((200, ABOVE_ALL, 0), &[1, 2]),
+    ]
+}
+
+#[test]
+fn format_1_2() {
+    let mut pairs = Pairs::in_order(&[1, 2]);
+    for ((marks, cells, words), faults) in lent_for_200() {
+        let mut memory = Memory::lent(words);
+        let answer = memory.format(marks, cells);
+        assert_eq!(memory.mesh.is_some(), answer.is_ok());
+        pairs.see(&[faults], answer.err());
+    }
+    pairs.end(&[]);
+}
+
+/// Type and marks of an insert into the map with a full mark, mark 10.
+fn types_and_marks() -> Vec<Choice<(u32, &'static [u32])>> {
+    vec![
+        ((TRI, &[3, 4, 5]), &[]),
+        ((258, &[3, 4, 5]), &[6]),
+        ((0, &[3, 4, 5]), &[6]),
+        ((TRI, &[3, 4]), &[7]),
+        ((TRI, &[3, 4, 5, 6]), &[7]),
+        ((TRI, &[3, 4, ABOVE_ALL]), &[8]),
+        ((TRI, &[200, 4, 5]), &[8]),
+        ((TRI, &[3, 4, 4]), &[9]),
+        ((TRI, &[2, 0, 1]), &[10]),
+        ((TRI, &[3, 4, 10]), &[11]),
+        // "an unknown type is 6 even so"
+        ((258, &[]), &[6, 7]),
+        ((258, &[3, 4, ABOVE_ALL]), &[6, 8]),
+        ((258, &[3, 3, 4]), &[6, 9]),
+        ((258, &[10, 4, 5]), &[6, 11]),
+        ((TRI, &[ABOVE_ALL, 4]), &[7, 8]),
+        ((TRI, &[3, 3]), &[7, 9]),
+        ((TRI, &[0, 1, 2, 2]), &[7, 9, 10]),
+        ((TRI, &[10, 3]), &[7, 11]),
+        // Each check looks at all marks before the next check starts.
+        ((TRI, &[3, 3, ABOVE_ALL]), &[8, 9]),
+        ((TRI, &[10, 3, ABOVE_ALL]), &[8, 11]),
+        ((TRI, &[10, 3, 3]), &[9, 11]),
+        ((BAR, &[20, 10]), &[10, 11]),
+    ]
+}
+
+#[test]
+fn insert_3_4_6_7_8_9_10_11() {
+    let mut pairs = Pairs::in_order(&[14, 3, 4, 6, 7, 8, 9, 10, 11]);
+    let memories: [Choice<Memory>; 2] = [
+        (with_full_mark(), &[]),
+        (Memory::lent(room(200, 200)), &[14]),
+    ];
+    let cells: [Choice<u32>; 4] = [(150, &[]), (200, &[3]), (ABOVE_ALL, &[3]), (0, &[4])];
+    for (memory, of_memory) in &memories {
+        for (cell, of_cell) in cells {
+            for ((code, marks), of_marks) in types_and_marks() {
+                let needs_live_cell = [of_cell, of_marks].concat();
+                let needs_live_cell = [4, 10, 11].iter().any(|it| needs_live_cell.contains(it));
+                if !memory.whole() && needs_live_cell {
+                    continue;
+                }
+                let mut after = memory.clone();
+                let answer = after.insert(cell, code, marks);
+                assert_eq!(after == *memory, answer.is_err());
+                pairs.see(&[of_memory, of_cell, of_marks], answer.err());
+            }
+        }
+    }
+    pairs.end(&[
+        (14, 4, NO_LIVE_CELL),
+        (14, 10, NO_LIVE_CELL),
+        (14, 11, NO_LIVE_CELL),
+        (3, 4, LIVE_IS_BELOW),
+        (6, 10, NO_CELL_OF_IT),
+        (8, 10, LIVE_MARKS_ARE_BELOW),
+        (9, 10, LIVE_MARKS_DIFFER),
+    ]);
+}
+
+/// The words of a last record after its number.
+fn after_the_number() -> Vec<Choice<&'static [u32]>> {
+    vec![
+        (&[TRI, 3, 4, 5], &[]),
+        (&[], &[MISSING]),
+        (&[258, 3, 4, 5], &[6]),
+        (&[TRI, 3, 4], &[7]),
+        (&[TRI], &[7]),
+        (&[TRI, 3, 4, ABOVE_ALL], &[8]),
+        (&[TRI, 3, 4, 4], &[9]),
+        (&[TRI, 2, 0, 1], &[10]),
+        (&[TRI, 3, 4, 10], &[11]),
+        // An unknown type is 6 whatever follows it, also nothing.
+        (&[258], &[6, 7]),
+        (&[258, 3, 4, ABOVE_ALL], &[6, 8]),
+        (&[258, 3, 3, 4], &[6, 9]),
+        (&[258, 10, 4, 5], &[6, 11]),
+        (&[TRI, ABOVE_ALL, 4], &[7, 8]),
+        (&[TRI, 3, 3], &[7, 9]),
+        (&[TRI, 10, 3], &[7, 11]),
+        (&[TRI, 3, 3, ABOVE_ALL], &[8, 9]),
+        (&[TRI, 10, 3, ABOVE_ALL], &[8, 11]),
+        (&[TRI, 10, 3, 3], &[9, 11]),
+        (&[BAR, 20, 10], &[10, 11]),
+    ]
+}
+
+/// The faults stand in the last record, after the 129 of the full mark.
+#[test]
+fn build_1_2_then_a_records_7_3_4_6_7_8_9_10_11() {
+    let mut pairs = Pairs::in_order(&[1, 2, MISSING, 3, 4, 6, 7, 8, 9, 10, 11]);
+    let mut before = Vec::new();
+    for (cell, code, marks) in full_mark_records() {
+        before.extend(words(&[(cell, code, &marks)]));
+    }
+    let numbers: [Choice<u32>; 3] = [(150, &[]), (ABOVE_ALL, &[3]), (0, &[4])];
+    for ((marks, cells, words), of_memory) in lent_for_200() {
+        for (cell, of_cell) in numbers {
+            for (record, of_record) in after_the_number() {
+                let mut memory = Memory::lent(words);
+                let records = [&before, &[cell][..], record].concat();
+                let answer = memory.build(marks, cells, &records);
+                let place = if of_memory.is_empty() { 129 } else { 0 };
+                assert_eq!(answer.err().map_or(place, |(_, place)| place), place);
+                let refusal = answer.err().map(|(refusal, _)| refusal);
+                pairs.see(&[of_memory, of_cell, of_record], refusal);
+            }
+        }
+    }
+    const NO_CODE: &str = "a record without its code has no type and no marks";
+    const TOO_FEW: &str = "a record cut short has fewer marks than a live cell of its type";
+    pairs.end(&[
+        (MISSING, 6, NO_CODE),
+        (MISSING, 7, NO_CODE),
+        (MISSING, 8, NO_CODE),
+        (MISSING, 9, NO_CODE),
+        (MISSING, 10, NO_CODE),
+        (MISSING, 11, NO_CODE),
+        (3, 4, LIVE_IS_BELOW),
+        (6, 10, NO_CELL_OF_IT),
+        (7, 10, TOO_FEW),
+        (8, 10, LIVE_MARKS_ARE_BELOW),
+        (9, 10, LIVE_MARKS_DIFFER),
+    ]);
+}
+
+/// Two faulty records: the first one is answered, whatever its number.
+#[test]
+fn build_answers_the_first_refused_record() {
+    let faulty: [(Record, u8); 7] = [
+        ((ABOVE_ALL, TRI, &[3, 4, 5]), 3),
+        ((0, TRI, &[3, 4, 5]), 4),
+        ((1, TETRA, &[0, 1, 2, ABOVE_ALL]), 8),
+        ((1, TRI, &[3, 3, 4]), 9),
+        ((1, TRI, &[2, 0, 1]), 10),
+        ((1, 258, &[]), 6),
+        ((1, TRI, &[]), 7),
+    ];
+    for (place, (one, due)) in faulty.iter().enumerate() {
+        for (other, _) in &faulty[..place] {
+            let records = words(&[(0, TRI, &[0, 1, 2]), *other, *one]);
+            let earlier = faulty.iter().find(|(it, _)| it == other).unwrap().1;
+            let answer = p1().build(6, 4, &records).unwrap_err();
+            assert_eq!((answer.0.number(), answer.1), (earlier, 1));
+        }
+        // A record whose marks are missing can only be the last.
+        let records = words(&[(0, TRI, &[0, 1, 2]), *one]);
+        let answer = p1().build(6, 4, &records).unwrap_err();
+        assert_eq!((answer.0.number(), answer.1), (*due, 1));
+    }
+}
+
+/// Calls `ask` with every memory and cell.
+fn over_cells(pairs: &mut Pairs, ask: impl Fn(&Memory, u32) -> Option<Refusal>) {
+    for (memory, of_memory) in memories() {
+        for (cell, of_cell) in cells() {
+            pairs.see(&[of_memory, of_cell], ask(&memory, cell));
+        }
+    }
+}
+
+#[test]
+fn remove_3_5() {
+    let mut pairs = Pairs::in_order(&[14, 3, 5]);
+    over_cells(&mut pairs, |memory, cell| {
+        let mut after = memory.clone();
+        let answer = after.remove(cell);
+        assert_eq!(after == *memory, answer.is_err());
+        answer.err()
+    });
+    pairs.end(&[]);
+}
+
+#[test]
+fn type_3_5() {
+    let mut pairs = Pairs::in_order(&[14, 3, 5]);
+    over_cells(&mut pairs, |memory, cell| {
+        let answer = memory.type_of(cell);
+        assert_eq!(memory.marks_of(cell).is_empty(), answer.is_err());
+        answer.err()
+    });
+    pairs.end(&[]);
+}
+
+#[test]
+fn neighbours_3_5_12() {
+    let mut pairs = Pairs::in_order(&[14, 3, 5, 12]);
+    for (room, of_room) in rooms() {
+        for (memory, of_memory) in memories() {
+            for (cell, of_cell) in cells() {
+                let answer = memory.neighbours(cell, room);
+                pairs.see(&[of_memory, of_cell, of_room], answer.err());
+            }
+        }
+    }
+    pairs.end(&[]);
+}
+
+/// Calls `ask` with every memory, cell and facet.
+fn over_half_facets(pairs: &mut Pairs, ask: impl Fn(&Memory, u32, u32) -> Option<Refusal>) {
+    for (memory, of_memory) in memories() {
+        for (cell, of_cell) in cells() {
+            for (facet, of_facet) in facets() {
+                let answer = ask(&memory, cell, facet);
+                pairs.see(&[of_memory, of_cell, of_facet], answer);
+            }
+        }
+    }
+}
+
+#[test]
+fn sibling_3_5_13() {
+    let mut pairs = Pairs::in_order(&[14, 3, 5, 13]);
+    over_half_facets(&mut pairs, |memory, cell, facet| {
+        memory.sibling(cell, facet).err()
+    });
+    pairs.end(&[]);
+}
+
+#[test]
+fn border_3_5_13() {
+    let mut pairs = Pairs::in_order(&[14, 3, 5, 13]);
+    over_half_facets(&mut pairs, |memory, cell, facet| {
+        memory.border(cell, facet).err()
+    });
+    pairs.end(&[]);
+}
+
+/// A walker's half-facet number has no room for a facet above 7.
+#[test]
+fn walker_3_5_13() {
+    let mut pairs = Pairs::in_order(&[14, 3, 5, 13]);
+    let facets: [Choice<u32>; 3] = [(0, &[]), (3, &[13]), (7, &[13])];
+    for (memory, of_memory) in memories() {
+        for (cell, of_cell) in cells() {
+            for (facet, of_facet) in facets {
+                let half = 8 * cell + facet;
+                let answer = Walker { half }.step(&memory);
+                pairs.see(&[of_memory, of_cell, of_facet], answer.err());
+            }
+        }
+    }
+    pairs.end(&[]);
+}
+
+#[test]
+fn cycle_3_5_13_12() {
+    let mut pairs = Pairs::in_order(&[14, 3, 5, 13, 12]);
+    for (room, of_room) in rooms() {
+        for (memory, of_memory) in memories() {
+            for (cell, of_cell) in cells() {
+                for (facet, of_facet) in facets() {
+                    let answer = memory.cycle(cell, facet, room);
+                    pairs.see(&[of_memory, of_cell, of_facet, of_room], answer.err());
+                }
+            }
+        }
+    }
+    pairs.end(&[]);
+}
+
+type ListAtMark = fn(&Memory, u32, u32, usize) -> Result<Vec<u32>, Refusal>;
+
+#[test]
+fn star_and_anchors_6_8_12() {
+    for list in [Memory::star as ListAtMark, Memory::anchors] {
+        let mut pairs = Pairs::in_order(&[14, 6, 8, 12]);
+        for (memory, of_memory) in memories() {
+            for (dimension, of_dimension) in dimensions() {
+                for (mark, of_mark) in marks() {
+                    for (room, of_room) in rooms() {
+                        let answer = list(&memory, dimension, mark, room);
+                        pairs.see(&[of_memory, of_dimension, of_mark, of_room], answer.err());
+                    }
+                }
+            }
+        }
+        pairs.end(&[]);
+    }
+}
+
+#[test]
+fn first_anchor_6_8() {
+    let mut pairs = Pairs::in_order(&[14, 6, 8]);
+    for (memory, of_memory) in memories() {
+        for (dimension, of_dimension) in dimensions() {
+            for (mark, of_mark) in marks() {
+                let answer = memory.first_anchor(dimension, mark);
+                pairs.see(&[of_memory, of_dimension, of_mark], answer.err());
+            }
+        }
+    }
+    pairs.end(&[]);
+}
+
+#[test]
+fn lookup_7_8_9() {
+    let mut pairs = Pairs::in_order(&[14, 7, 8, 9]);
+    let sets: [Choice<&[u32]>; 10] = [
+        (&[0, 1], &[]),
+        (&[], &[7]),
+        (&[0, 1, 2, 3, 4], &[7]),
+        (&[0, 6], &[8]),
+        (&[ABOVE_ALL], &[8]),
+        (&[1, 1], &[9]),
+        (&[0, 1, 2, 3, ABOVE_ALL], &[7, 8]),
+        (&[0, 0, 1, 2, 3], &[7, 9]),
+        (&[1, 1, ABOVE_ALL], &[8, 9]),
+        (&[ABOVE_ALL, ABOVE_ALL], &[8, 9]),
+    ];
+    for (memory, of_memory) in memories() {
+        for (set, of_set) in sets {
+            pairs.see(&[of_memory, of_set], memory.lookup(set).err());
+        }
+    }
+    pairs.end(&[]);
+}
+
+#[test]
+fn cells_of_type_6_12() {
+    let mut pairs = Pairs::in_order(&[14, 6, 12]);
+    for (memory, of_memory) in memories() {
+        for (code, of_code) in codes() {
+            for (room, of_room) in rooms() {
+                let answer = memory.cells_of_type(code, room);
+                pairs.see(&[of_memory, of_code, of_room], answer.err());
+            }
+        }
+    }
+    pairs.end(&[]);
+}
+
+#[test]
+fn count_of_type_6() {
+    let mut pairs = Pairs::in_order(&[14, 6]);
+    for (memory, of_memory) in memories() {
+        for (code, of_code) in codes() {
+            let answer = memory.count_of_type(code);
+            pairs.see(&[of_memory, of_code], answer.err());
+        }
+    }
+    pairs.end(&[]);
+}

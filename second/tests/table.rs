@@ -1,0 +1,115 @@
+//! The type table and the refusal table, against the outline's text.
+
+use second::shapes::{numbering, Type, HALF_FACETS_A_CELL, LOOKUP_MARKS, TYPES};
+use second::Refusal;
+
+#[test]
+fn the_facet_numbering_is_the_outlines() {
+    let outline = "\
+1 BAR_2 dimension 1 marks 2 facets (0) (1)
+2 TRI_3 dimension 2 marks 3 facets (0,1) (1,2) (2,0)
+3 QUAD_4 dimension 2 marks 4 facets (0,1) (1,2) (2,3) (3,0)
+4 TETRA_4 dimension 3 marks 4 facets (0,2,1) (0,1,3) (1,2,3) (2,0,3)
+";
+    assert_eq!(numbering(), outline);
+}
+
+/// The column "facets" of the type table, beside the numbering itself.
+#[test]
+fn each_type_has_its_count_of_facets() {
+    let counts: Vec<(u32, usize)> = TYPES
+        .iter()
+        .map(|row| (row.code, row.facets.len()))
+        .collect();
+    assert_eq!(counts, [(1, 2), (2, 3), (3, 4), (4, 4)]);
+}
+
+/// The anchor of a group needs it: a cell that holds a mark has a facet that
+/// holds it.
+#[test]
+fn every_place_of_a_type_stands_in_a_facet() {
+    for row in TYPES {
+        for place in 0..row.marks {
+            assert!(
+                row.facets.iter().any(|facet| facet.contains(&place)),
+                "place {place} of {}",
+                row.name
+            );
+        }
+    }
+}
+
+#[test]
+fn every_facet_is_a_set_of_the_types_places() {
+    for row in TYPES {
+        for facet in sorted_facets(row) {
+            let ascending = facet.windows(2).all(|two| two[0] < two[1]);
+            assert!(ascending, "a repeat in {facet:?} of {}", row.name);
+            assert!(
+                facet.iter().all(|&place| place < row.marks),
+                "{facet:?} of {}",
+                row.name
+            );
+        }
+    }
+}
+
+/// Otherwise one cell would be its own sibling on two facets.
+#[test]
+fn no_type_has_two_facets_with_one_set() {
+    for row in TYPES {
+        let mut facets = sorted_facets(row);
+        facets.sort();
+        facets.dedup();
+        assert_eq!(facets.len(), row.facets.len(), "{}", row.name);
+    }
+}
+
+#[test]
+fn half_facet_numbers_and_lookup_sets_have_room_for_every_type() {
+    for row in TYPES {
+        assert!(
+            row.facets.len() <= HALF_FACETS_A_CELL as usize,
+            "{}",
+            row.name
+        );
+        for facet in row.facets {
+            assert!(LOOKUP_MARKS.contains(&facet.len()), "{}", row.name);
+        }
+    }
+}
+
+#[test]
+fn the_refusals_are_the_outlines() {
+    let outline = "\
+1: a capacity is above 65,535
+2: at format or build, memory is shorter than the room
+3: a cell number is not below the capacity
+4: insert: the number is live
+5: the cell is not live
+6: type code not in the table, or dimension not 1 to 3
+7: wrong count of marks for the type or the lookup, or a build record cut short
+8: a mark is not below the capacity
+9: a mark occurs twice
+10: a live cell of that type has the same set of marks
+11: one of the marks stands in 128 live cells already
+12: output buffer shorter than the list
+13: local facet not below the type's count
+14: memory is not a mesh
+15: bad frame (program only)
+";
+    let lines: String = Refusal::ALL
+        .iter()
+        .map(|refusal| format!("{refusal}\n"))
+        .collect();
+    assert_eq!(lines, outline);
+}
+
+fn sorted_facets(row: &Type) -> Vec<Vec<usize>> {
+    let sorted = |facet: &&[usize]| {
+        let mut places = facet.to_vec();
+        places.sort();
+        places
+    };
+    row.facets.iter().map(sorted).collect()
+}
