@@ -90,11 +90,7 @@ fn refusal_3_a_cell_number_not_below_the_capacity() {
     assert_eq!(number(memory.insert(2, TRI, &[0, 1, 3])), 0);
     assert_eq!(number(memory.type_of(u32::MAX)), 3);
     assert_eq!(number(Walker { half: u32::MAX }.step(&memory)), 3);
-    assert_eq!(number(p_without_cells().type_of(0)), 3);
-}
-
-fn p_without_cells() -> Memory {
-    formatted(6, 0)
+    assert_eq!(number(formatted(6, 0).type_of(0)), 3);
 }
 
 #[test]

@@ -1,6 +1,6 @@
 -- An ascending list as a cycle: stepping to the next goes once through the whole list and returns.
 use mathlib.Core.Path.{_≡_, refl, sym, ap, _∙_}
-use mathlib.Core.Bool.{Bool, true, false, cond}
+use mathlib.Core.Bool.{Bool, true, false, cond, _||_}
 use mathlib.Core.List.{List, [], _∷_, _++_, append-nil}
 use mathlib.Core.Logic.{⊎-elim, _⊎_, inl, inr}
 use Prim.Native.Nat.{ℕ, zero, suc, _+_, _-_, _<_, _≤_}
@@ -13,7 +13,7 @@ use lib.ListN.{length, getD, take, drop, length-drop, length-take, List·getD-ap
 use lib.Seq.{getD-drop, getD-take, getD-append-add, drop-cons, length-take-le}
 use Rattle.lists.specs.Lists.{has, keep, first, after, from, steps, all}
 use Rattle.lists.specs.Ascending.{Ascending}
-use Rattle.lists.proofs.Bools.{or-left, or-right, or-cases, and-right}
+use Rattle.lists.proofs.Bools.{or-left, or-right, or-cases, and-right, and-both}
 use Rattle.lists.proofs.Members.{has-at, at-has, has-append, first-at, first-has, keep-has}
 use Rattle.lists.proofs.Order.{asc-rest, asc-first}
 
@@ -67,6 +67,26 @@ getD-any (x ∷ xs) (suc k) d e h = getD-any xs k d e (le-of-suc-le-suc h)
 -- a list laid twice: the second time round
 twice-again : (l : List ℕ) (k j : ℕ) → j ≡ length l + k → getD (l ++ l) j 0 ≡ getD l k 0
 twice-again l k j e = rw e (getD-append-add l l k 0)
+
+-- the cycle has the numbers of the list
+pub has-from : (h v : ℕ) (l : List ℕ) → has v l ≡ true → has v (from h l) ≡ true
+unfolding from
+has-from h v l e = has-append v (keep (leb h) l) (keep (λ k. ltb k h) l) ∙ go (decLt v h)
+  where
+    go : Dec (v < h) → has v (keep (leb h) l) || has v (keep (λ k. ltb k h) l) ≡ true
+    go (yes less) =
+        or-right (has v (keep (leb h) l)) (has v (keep (λ k. ltb k h) l))
+        (keep-has (λ k. ltb k h) l v ∙ and-both (ltb v h) (has v l) (lt-ltb v h less) e)
+    go (no f) =
+        or-left (has v (keep (leb h) l)) (has v (keep (λ k. ltb k h) l))
+        (keep-has (leb h) l v ∙ and-both (leb h v) (has v l) (le-leb h v (omega arith)) e)
+
+pub from-has : (h v : ℕ) (l : List ℕ) → has v (from h l) ≡ true → has v l ≡ true
+unfolding from
+from-has h v l e =
+    ⊎-elim (λ (q : has v (keep (leb h) l) ≡ true). and-right (leb h v) (has v l) (sym (keep-has (leb h) l v) ∙ q))
+    (λ (q : has v (keep (λ k. ltb k h) l) ≡ true). and-right (ltb v h) (has v l) (sym (keep-has (λ k. ltb k h) l v) ∙ q))
+    (or-cases (has v (keep (leb h) l)) (has v (keep (λ k. ltb k h) l)) (sym (has-append v (keep (leb h) l) (keep (λ k. ltb k h) l)) ∙ e))
 
 module _ (l : List ℕ) (a : Ascending l) where
   -- the next of the one at a place is the one at the next place of the list laid twice

@@ -5,4 +5,5 @@ pub mod Members
 pub mod Sets
 pub mod Select
 pub mod Order
+pub mod Keep
 pub mod Cyclic

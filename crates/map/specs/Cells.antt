@@ -22,19 +22,20 @@ pub record Live : Type 0 where
 unfoldable pub noCell : Body
 noCell = record { code = 0; marks = [] }
 
--- the map: the numbers below `size` may be live, and `at` is the cell under each
+-- the map: the capacities, and what stands under each cell number
 pub record Map : Type 0 where
-  pub size : ℕ
+  pub marks : ℕ
+  pub cells : ℕ
   pub at : ℕ → Body
 
 unfoldable pub bodyIn : List Live → ℕ → Body
 bodyIn [] c = noCell
 bodyIn (x ∷ xs) c = cond (eqb (x .number) c) (x .body) (bodyIn xs c)
 
-unfoldable pub mapOf : ℕ → List Live → Map
-mapOf size cells = record { size = size; at = bodyIn cells }
+unfoldable pub mapOf : ℕ → ℕ → List Live → Map
+mapOf marks cells list = record { marks = marks; cells = cells; at = bodyIn list }
 
--- a cell is live: its type is one of the table
+-- a cell is live: a type stands under its number
 unfoldable pub live : Map → ℕ → Bool
 live m c = not (eqb (m .at c .code) 0)
 
@@ -55,8 +56,8 @@ shares m a b = any (λ (f : List ℕ). any (sameSet f) (facetsAt m b)) (facetsAt
 
 -- "for each type its live cells, ascending"
 unfoldable pub cellsOf : Map → ℕ → List ℕ
-cellsOf m t = select (λ c. eqb (m .at c .code) t) (m .size)
+cellsOf m t = select (λ c. eqb (m .at c .code) t) (m .cells)
 
 -- "Neighbours of a cell: the other live cells that share a facet with it, ascending, each once."
 unfoldable pub neighbours : Map → ℕ → List ℕ
-neighbours m c = select (λ k. not (eqb k c) && shares m c k) (m .size)
+neighbours m c = select (λ k. not (eqb k c) && shares m c k) (m .cells)

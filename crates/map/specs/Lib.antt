@@ -2,3 +2,6 @@ pub mod Cells
 pub mod Siblings
 pub mod Groups
 pub mod Stars
+pub mod Answers
+pub mod History
+pub mod Cases

@@ -1,0 +1,4 @@
+-- The laws that prove the definitions of the map right, and that the layers above cite.
+pub mod Cycles
+pub mod Groups
+pub mod Anchors

@@ -1,0 +1,2 @@
+-- The twelve cases.
+pub mod Cases

@@ -1,0 +1,125 @@
+-- What each call answers: the refusal number, 0 for accepted, and the values. Checks stand in the listed order.
+use mathlib.Core.Bool.{Bool, cond, not, _&&_, _||_}
+use mathlib.Core.List.{List, [], _∷_, _++_}
+use Prim.Native.Nat.{ℕ, _+_, _*_, _/_, _%_}
+use lib.Dec.{eqb, leb, ltb}
+use lib.ListN.{length, take, drop}
+use Rattle.lists.specs.Lists.{any, repeats, sameSet}
+use Rattle.numbers.specs.Half.{halfOf}
+use Rattle.shapes.specs.Shapes.{shape, facetCount}
+use Rattle.map.specs.Cells.{Map, live, cellsOf, neighbours}
+use Rattle.map.specs.Siblings.{sharers, sibling, cycle, border}
+use Rattle.map.specs.Stars.{holders, star, anchors}
+
+pub record Answer : Type 0 where
+  pub refusal : ℕ
+  pub values : List ℕ
+
+-- a check: the number that is given when it fails
+pub record Check : Type 0 where
+  pub number : ℕ
+  pub fails : Bool
+
+infix 20 _when_
+unfoldable pub _when_ : ℕ → Bool → Check
+n when fails = record { number = n; fails = fails }
+
+-- the first check that fails is the answer
+unfoldable pub answer : List Check → List ℕ → Answer
+answer [] values = record { refusal = 0; values = values }
+answer (c ∷ cs) values = cond (c .fails) (record { refusal = c .number; values = [] }) (answer cs values)
+
+-- a listed answer gives the count; "12: output buffer shorter than the list"
+unfoldable pub listAnswer : List Check → List ℕ → ℕ → Answer
+listAnswer checks l places = answer (checks ++ ((12 when ltb places (length l)) ∷ [])) (length l ∷ [])
+
+-- "a list that fits changes only its first places"; a refusal changes nothing
+unfoldable pub listed : Answer → List ℕ → List ℕ → List ℕ
+listed a l out = cond (eqb (a .refusal) 0) (l ++ drop (length l) out) out
+
+-- "room = 16 + 8 × marks + 32 × cells"
+unfoldable pub room : ℕ → ℕ → ℕ
+room marks cells = 16 + 8 * marks + 32 * cells
+
+-- "Format: 1, 2."
+unfoldable pub formatChecks : ℕ → ℕ → ℕ → List Check
+formatChecks words marks cells =
+    (1 when ltb 65535 marks || ltb 65535 cells) ∷ (2 when ltb words (room marks cells)) ∷ []
+
+-- "Insert: 3, 4, 6, 7, 8, 9, 10, 11."
+unfoldable pub insertChecks : Map → ℕ → ℕ → List ℕ → List Check
+insertChecks m c t marks =
+    (3 when leb (m .cells) c)
+    ∷ (4 when live m c)
+    ∷ (6 when eqb (shape t .dimension) 0)
+    ∷ (7 when not (eqb (length marks) (shape t .marks)))
+    ∷ (8 when any (leb (m .marks)) marks)
+    ∷ (9 when repeats marks)
+    ∷ (10 when any (λ k. sameSet (m .at k .marks) marks) (cellsOf m t))
+    ∷ (11 when any (λ v. leb 128 (length (holders m v))) marks)
+    ∷ []
+
+-- "Remove: 3, 5.", and so every query of a cell
+unfoldable pub cellChecks : Map → ℕ → List Check
+cellChecks m c = (3 when leb (m .cells) c) ∷ (5 when not (live m c)) ∷ []
+
+-- of a half-facet: 3, 5, 13
+unfoldable pub halfChecks : Map → ℕ → ℕ → List Check
+halfChecks m c f = cellChecks m c ++ ((13 when leb (facetCount (m .at c .code)) f) ∷ [])
+
+-- of a mark and a dimension: 6, 8
+unfoldable pub starChecks : Map → ℕ → ℕ → List Check
+starChecks m d v = (6 when ltb d 1 || ltb 3 d) ∷ (8 when leb (m .marks) v) ∷ []
+
+-- of a set of marks: 7, 8, 9
+unfoldable pub setChecks : Map → List ℕ → List Check
+setChecks m set =
+    (7 when ltb (length set) 1 || ltb 3 (length set)) ∷ (8 when any (leb (m .marks)) set) ∷ (9 when repeats set) ∷ []
+
+-- of a type: 6
+unfoldable pub typeChecks : ℕ → List Check
+typeChecks t = (6 when eqb (shape t .dimension) 0) ∷ []
+
+unfoldable pub typeAnswer : Map → ℕ → Answer
+typeAnswer m c = answer (cellChecks m c) (m .at c .code ∷ [])
+
+-- "where the type query refuses, that part is empty"
+unfoldable pub marksPart : Map → ℕ → List ℕ
+marksPart m c = cond (eqb (typeAnswer m c .refusal) 0) (m .at c .marks) []
+
+unfoldable pub siblingAnswer : Map → ℕ → ℕ → Answer
+siblingAnswer m c f = answer (halfChecks m c f) (sibling m (halfOf c f) ∷ [])
+
+unfoldable pub cycleAnswer : Map → ℕ → ℕ → ℕ → Answer
+cycleAnswer m c f places = listAnswer (halfChecks m c f) (cycle m (halfOf c f)) places
+
+-- 1 for a border, 0 for none
+unfoldable pub borderAnswer : Map → ℕ → ℕ → Answer
+borderAnswer m c f = answer (halfChecks m c f) (cond (border m (halfOf c f)) 1 0 ∷ [])
+
+unfoldable pub starAnswer : Map → ℕ → ℕ → ℕ → Answer
+starAnswer m d v places = listAnswer (starChecks m d v) (star m d v) places
+
+unfoldable pub anchorsAnswer : Map → ℕ → ℕ → ℕ → Answer
+anchorsAnswer m d v places = listAnswer (starChecks m d v) (anchors m d v) places
+
+-- "Where no anchor exists, the first anchor answers none": no value
+unfoldable pub firstAnchorAnswer : Map → ℕ → ℕ → Answer
+firstAnchorAnswer m d v = answer (starChecks m d v) (take 1 (anchors m d v))
+
+unfoldable pub neighboursAnswer : Map → ℕ → ℕ → Answer
+neighboursAnswer m c places = listAnswer (cellChecks m c) (neighbours m c) places
+
+-- "The lookup by mark set gives the smallest half-facet or says that there is none": no value
+unfoldable pub lookupAnswer : Map → List ℕ → Answer
+lookupAnswer m set = answer (setChecks m set) (take 1 (sharers m set))
+
+unfoldable pub cellsAnswer : Map → ℕ → ℕ → Answer
+cellsAnswer m t places = listAnswer (typeChecks t) (cellsOf m t) places
+
+unfoldable pub countAnswer : Map → ℕ → Answer
+countAnswer m t = answer (typeChecks t) (length (cellsOf m t) ∷ [])
+
+-- "After an edit a step gives the sibling as it is then, or the refusal for that half-facet."
+unfoldable pub stepAnswer : Map → ℕ → Answer
+stepAnswer m h = siblingAnswer m (h / 8) (h % 8)

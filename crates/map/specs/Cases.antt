@@ -1,0 +1,143 @@
+-- "Twelve cases to prove": a row has the edits that make the mesh, a question, and the outline's answer.
+use mathlib.Core.Bool.{Bool, true, false, not, _&&_}
+use mathlib.Core.List.{List, [], _∷_, _++_}
+use Prim.Native.Nat.{ℕ, zero, suc, _*_}
+use lib.Dec.{eqb}
+use lib.ListN.{length}
+use Rattle.lists.specs.Lists.{all, select}
+use Rattle.map.specs.Cells.{Map}
+use Rattle.map.specs.Siblings.{isHalf, border}
+use Rattle.map.specs.Stars.{star, anchors}
+use Rattle.map.specs.Answers.{Answer, siblingAnswer, starAnswer, anchorsAnswer}
+use Rattle.map.specs.History.{Edit, Insert, Remove, mapIn, empty, history, editAnswer}
+
+pub data Question : Type 0 where
+  -- of a cell and a facet; of a dimension and a mark; an edit tried
+  Sibling : ℕ → ℕ → Question
+  Star : ℕ → ℕ → Question
+  Anchors : ℕ → ℕ → Question
+  Try : Edit → Question
+  -- the border half-facets; the live half-facets that are no border; the stars and the anchors of all marks, in all dimensions, in one list
+  Borders : Question
+  Inner : Question
+  AllStars : Question
+  AllAnchors : Question
+
+-- f 0, then f 1, and so on, n lists in one
+unfoldable pub joined : (ℕ → List ℕ) → ℕ → List ℕ
+joined f zero = []
+joined f (suc n) = joined f n ++ f n
+
+unfoldable pub replied : Answer → List ℕ → List ℕ
+replied a l = a .refusal ∷ l
+
+-- the refusal number, and what is given
+unfoldable pub ask : Map → Question → List ℕ
+ask m (Sibling c f) = replied (siblingAnswer m c f) (siblingAnswer m c f .values)
+ask m (Star d v) = replied (starAnswer m d v 128) (star m d v)
+ask m (Anchors d v) = replied (anchorsAnswer m d v 128) (anchors m d v)
+ask m (Try e) = replied (editAnswer m e) []
+ask m Borders = 0 ∷ select (λ h. isHalf m h && border m h) (8 * m .cells)
+ask m Inner = 0 ∷ select (λ h. isHalf m h && not (border m h)) (8 * m .cells)
+ask m AllStars = 0 ∷ joined (λ d. joined (star m (suc d)) (m .marks)) 3
+ask m AllAnchors = 0 ∷ joined (λ d. joined (anchors m (suc d)) (m .marks)) 3
+
+pub record Row : Type 0 where
+  pub edits : List Edit
+  pub question : Question
+  pub answer : List ℕ
+
+infix 20 _asked_gives_
+unfoldable pub _asked_gives_ : List Edit → Question → List ℕ → Row
+edits asked q gives l = record { edits = edits; question = q; answer = l }
+
+unfoldable pub same : List ℕ → List ℕ → Bool
+same [] [] = true
+same [] (y ∷ ys) = false
+same (x ∷ xs) [] = false
+same (x ∷ xs) (y ∷ ys) = eqb x y && same xs ys
+
+-- the meshes of the cases, of 5 marks and 4 cells
+unfoldable pub bar : ℕ → ℕ → ℕ → Edit
+bar c a b = Insert c 1 (a ∷ b ∷ [])
+
+unfoldable pub tri : ℕ → ℕ → ℕ → ℕ → Edit
+tri c a b d = Insert c 2 (a ∷ b ∷ d ∷ [])
+
+unfoldable pub tetra : ℕ → ℕ → ℕ → ℕ → ℕ → Edit
+tetra c a b d e = Insert c 4 (a ∷ b ∷ d ∷ e ∷ [])
+
+unfoldable pub p2 : List Edit
+p2 = tri 0 0 1 2 ∷ []
+
+unfoldable pub p3 : List Edit
+p3 = tri 0 0 1 2 ∷ tri 1 2 1 3 ∷ []
+
+unfoldable pub p4 : List Edit
+p4 = tri 0 0 1 2 ∷ tri 1 0 1 3 ∷ tri 2 0 1 4 ∷ []
+
+unfoldable pub p5 : List Edit
+p5 = tri 0 0 1 2 ∷ tri 1 0 3 4 ∷ []
+
+unfoldable pub p6 : List Edit
+p6 = tetra 0 0 1 2 3 ∷ tetra 1 0 2 1 4 ∷ []
+
+unfoldable pub p7 : List Edit
+p7 = tri 0 0 2 1 ∷ tri 1 0 1 3 ∷ tri 2 1 2 3 ∷ tri 3 2 0 3 ∷ []
+
+unfoldable pub p8 : List Edit
+p8 = bar 0 0 1 ∷ bar 1 1 2 ∷ []
+
+unfoldable pub p9 : List Edit
+p9 = tri 0 0 1 2 ∷ tri 1 0 1 3 ∷ tri 2 0 1 4 ∷ Remove 1 ∷ []
+
+unfoldable pub p12 : List Edit
+p12 = tri 0 0 1 2 ∷ tetra 1 0 1 2 3 ∷ []
+
+unfoldable pub rows : List Row
+rows =
+    -- P1 no cells: every star and anchor list is empty
+    ([] asked AllStars gives 0 ∷ [])
+    ∷ ([] asked AllAnchors gives 0 ∷ [])
+    -- P2 cell 0 triangle (0,1,2): all border; the anchor of mark 2 is 1
+    ∷ (p2 asked Borders gives 0 ∷ 0 ∷ 1 ∷ 2 ∷ [])
+    ∷ (p2 asked Inner gives 0 ∷ [])
+    ∷ (p2 asked Anchors 2 2 gives 0 ∷ 1 ∷ [])
+    -- P3 add cell 1 triangle (2,1,3): 1 and 8 are siblings
+    ∷ (p3 asked Sibling 0 1 gives 0 ∷ 8 ∷ [])
+    ∷ (p3 asked Sibling 1 0 gives 0 ∷ 1 ∷ [])
+    -- P4 triangles 0 (0,1,2), 1 (0,1,3), 2 (0,1,4): 0 to 8 to 16 to 0
+    ∷ (p4 asked Sibling 0 0 gives 0 ∷ 8 ∷ [])
+    ∷ (p4 asked Sibling 1 0 gives 0 ∷ 16 ∷ [])
+    ∷ (p4 asked Sibling 2 0 gives 0 ∷ 0 ∷ [])
+    -- P5 triangles 0 (0,1,2), 1 (0,3,4): the anchors of mark 0 are 0 and 8
+    ∷ (p5 asked Anchors 2 0 gives 0 ∷ 0 ∷ 8 ∷ [])
+    -- P6 tetrahedra 0 (0,1,2,3), 1 (0,2,1,4): 0 and 8 are siblings; the anchor of mark 0 is 1
+    ∷ (p6 asked Sibling 0 0 gives 0 ∷ 8 ∷ [])
+    ∷ (p6 asked Sibling 1 0 gives 0 ∷ 0 ∷ [])
+    ∷ (p6 asked Anchors 3 0 gives 0 ∷ 1 ∷ [])
+    -- P7 triangles 0 (0,2,1), 1 (0,1,3), 2 (1,2,3), 3 (2,0,3): no border; the anchor of mark 3 is 9
+    ∷ (p7 asked Borders gives 0 ∷ [])
+    ∷ (p7 asked Anchors 2 3 gives 0 ∷ 9 ∷ [])
+    -- P8 bars 0 (0,1), 1 (1,2): 1 and 8 are siblings; the anchor of mark 1 is 1
+    ∷ (p8 asked Sibling 0 1 gives 0 ∷ 8 ∷ [])
+    ∷ (p8 asked Sibling 1 0 gives 0 ∷ 1 ∷ [])
+    ∷ (p8 asked Anchors 1 1 gives 0 ∷ 1 ∷ [])
+    -- P9 P4 without cell 1: 0 to 16 to 0, and 8 is refused with 5
+    ∷ (p9 asked Sibling 0 0 gives 0 ∷ 16 ∷ [])
+    ∷ (p9 asked Sibling 2 0 gives 0 ∷ 0 ∷ [])
+    ∷ (p9 asked Sibling 1 0 gives 5 ∷ [])
+    -- P10 P2, then triangle (2,0,1) as cell 1: 10
+    ∷ (p2 asked Try (tri 1 2 0 1) gives 10 ∷ [])
+    -- P11 triangle (0,1,1): 9
+    ∷ ([] asked Try (tri 0 0 1 1) gives 9 ∷ [])
+    -- P12 P2 with tetrahedron 1 (0,1,2,3): no siblings across
+    ∷ (p12 asked Borders gives 0 ∷ 0 ∷ 1 ∷ 2 ∷ 8 ∷ 9 ∷ 10 ∷ 11 ∷ [])
+    ∷ []
+
+-- a row holds: the mesh of its edits answers as it says
+unfoldable pub holdsRow : Row → Bool
+holdsRow r = same (ask (mapIn (history (empty 5 4) (r .edits))) (r .question)) (r .answer)
+
+unfoldable pub hold : List Row → Bool
+hold l = all holdsRow l
