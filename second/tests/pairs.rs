@@ -122,8 +122,8 @@ fn insert_3_4_6_7_8_9_10_11() {
     for (memory, of_memory) in &memories {
         for (cell, of_cell) in cells {
             for ((code, marks), of_marks) in types_and_marks() {
-                let needs_live_cell = [of_cell, of_marks].concat();
-                let needs_live_cell = [4, 10, 11].iter().any(|it| needs_live_cell.contains(it));
+                let faults = [of_cell, of_marks].concat();
+                let needs_live_cell = faults.iter().any(|fault| [4, 10, 11].contains(fault));
                 if !memory.whole() && needs_live_cell {
                     continue;
                 }

@@ -24,9 +24,10 @@ module _ (m : Map) where
   pub sharers-has : (set : List ℕ) (k : ℕ) → has k (sharers m set) ≡ true → Half m k × (sameSet set (marksOf m k) ≡ true)
   unfolding sharers
   sharers-has set k e =
-      let r = select-out (λ k. isHalf m k && sameSet set (marksOf m k)) (8 * m .cells) k e in
-      ( record { below = r .0; facet = and-left (isHalf m k) (sameSet set (marksOf m k)) (r .1) }
-      , and-right (isHalf m k) (sameSet set (marksOf m k)) (r .1))
+      let r = select-out (λ k. isHalf m k && sameSet set (marksOf m k)) (8 * m .cells) k e in (
+        record { below = r .0; facet = and-left (isHalf m k) (sameSet set (marksOf m k)) (r .1) },
+        and-right (isHalf m k) (sameSet set (marksOf m k)) (r .1),
+      )
 
   pub has-sharers : (set : List ℕ) (k : ℕ) → Half m k → sameSet set (marksOf m k) ≡ true → has k (sharers m set) ≡ true
   unfolding sharers
@@ -169,11 +170,15 @@ module _ (m : Map) where
     where
       sets : siblings m g ≡ siblings m h
       sets = sym (siblings-same g (sibling m g) (sibling-has g x)) ∙ (ap (siblings m) e ∙ siblings-same h (sibling m h) (sibling-has h y))
+
       n : ℕ
       n = length (siblings m h) - 1
+
       around : (k : ℕ) (z : Half m k) (n : ℕ) → suc n ≡ length (siblings m k) → walk m n (sibling m k) ≡ k
       around k z n s = sym (walk-onward n k) ∙ (ap (λ (j : ℕ). walk m j k) s ∙ walk-returns k z)
+
       whole : suc n ≡ length (siblings m h)
       whole = omega (arith, has-at h (siblings m h) (siblings-self h y) .1)
+
       sizes : suc n ≡ length (siblings m g)
       sizes = whole ∙ ap length (sym sets)

@@ -124,6 +124,7 @@ module _ (l : List ℕ) (a : Ascending l) where
     where
       size : length (drop i l) ≡ length l - i
       size = length-drop i l
+
       go : Dec (i + k < length l) → getD (drop i l ++ take i l) k 0 ≡ getD (l ++ l) (i + k) 0
       go (yes h) =
           List·getD-append (drop i l) (take i l) 0 k (omega (arith, size))
@@ -140,7 +141,7 @@ module _ (l : List ℕ) (a : Ascending l) where
     steps-from k hk =
         let r = has-at h l e in
         let s : steps (λ x. after x l) k (getD l (r .0) 0) ≡ getD (from (getD l (r .0) 0) l) k 0 =
-            steps-twice (r .0) k (omega (arith, r .1)) (r .1) ∙ sym (from-twice (r .0) k (r .1) hk) in
+        steps-twice (r .0) k (omega (arith, r .1)) (r .1) ∙ sym (from-twice (r .0) k (r .1) hk) in
         rw (r .2) at s
 
     -- as many steps as the list is long lead back
@@ -148,7 +149,7 @@ module _ (l : List ℕ) (a : Ascending l) where
     steps-back =
         let r = has-at h l e in
         let s : steps (λ x. after x l) (length l) (getD l (r .0) 0) ≡ getD l (r .0) 0 =
-            steps-twice (r .0) (length l) (omega (arith, r .1)) (r .1) ∙ twice-again l (r .0) (r .0 + length l) (omega arith) in
+        steps-twice (r .0) (length l) (omega (arith, r .1)) (r .1) ∙ twice-again l (r .0) (r .0 + length l) (omega arith) in
         rw (r .2) at s
 
     -- and no fewer do
@@ -156,7 +157,7 @@ module _ (l : List ℕ) (a : Ascending l) where
     steps-first k h0 hk back =
         let r = has-at h l e in
         let s : getD (l ++ l) (r .0 + k) 0 ≡ getD l (r .0) 0 =
-            sym (steps-twice (r .0) k (omega (arith, r .1)) (r .1)) ∙ rw (r .2) back in
+        sym (steps-twice (r .0) k (omega (arith, r .1)) (r .1)) ∙ rw (r .2) back in
         go (r .0) (r .1) s (decLt (r .0 + k) (length l))
       where
         go : (i : ℕ) → i < length l → getD (l ++ l) (i + k) 0 ≡ getD l i 0 → Dec (i + k < length l) → ⊥
@@ -184,6 +185,7 @@ module _ (l : List ℕ) (a : Ascending l) where
       where
         next : ℕ
         next = first h (keep (ltb h) l ++ l)
+
         found : has next (keep (ltb h) l ++ l) ≡ true
         found =
             first-has h (keep (ltb h) l ++ l) h

@@ -101,7 +101,7 @@ keep-has p [] v = go (p v)
 keep-has p (x ∷ xs) v = go (p x) refl (eqb x v) refl (keep-has p xs v)
   where
     go : (t : Bool) → p x ≡ t → (q : Bool) → eqb x v ≡ q → has v (keep p xs) ≡ p v && has v xs
-      → has v (cond t (x ∷ keep p xs) (keep p xs)) ≡ p v && (q || has v xs)
+        → has v (cond t (x ∷ keep p xs) (keep p xs)) ≡ p v && (q || has v xs)
     go true e true f ih =
         let pv : p v ≡ true = ap p (sym (eqb-true x v f)) ∙ e in
         rw (f, pv)

@@ -38,9 +38,9 @@ asc-append [] b p q f = q
 asc-append (x ∷ xs) b p q f =
     asc-cons x (xs ++ b)
     (λ v e.
-      ⊎-elim (λ (h : has v xs ≡ true). asc-first x xs p v h)
-      (λ (h : has v b ≡ true). f x v (or-left (eqb x x) (has x xs) (eq-eqb x x refl)) h)
-      (or-cases (has v xs) (has v b) (sym (has-append v xs b) ∙ e)))
+    ⊎-elim (λ (h : has v xs ≡ true). asc-first x xs p v h)
+    (λ (h : has v b ≡ true). f x v (or-left (eqb x x) (has x xs) (eq-eqb x x refl)) h)
+    (or-cases (has v xs) (has v b) (sym (has-append v xs b) ∙ e)))
     (asc-append xs b (asc-rest x xs p) q (λ y z h k. f y z (or-right (eqb x y) (has y xs) h) k))
 
 pub select-ascends : (p : ℕ → Bool) (n : ℕ) → Ascending (select p n)
@@ -55,6 +55,7 @@ select-ascends p (suc n) = go (p n) (select-ascends p n)
       where
         none : (v : ℕ) → has v [] ≡ true → ⊥
         none v e = clash e refl
+
         below : (x y : ℕ) → has x (select p n) ≡ true → has y (n ∷ []) ≡ true → x < y
         below x y h k = omega (arith, select-out p n x h .0, eqb-true n y (sym (has-one y n) ∙ k))
     go false a = a
@@ -87,26 +88,31 @@ asc-same (x ∷ xs) (y ∷ ys) p q f = go (first-both) (asc-same xs ys (asc-rest
   where
     in-x : (v : ℕ) → has v xs ≡ true → eqb x v || has v xs ≡ true
     in-x v h = or-right (eqb x v) (has v xs) h
+
     x-first : (v : ℕ) → eqb x v || has v xs ≡ true → x ≤ v
     x-first v e =
         ⊎-elim (λ (h : eqb x v ≡ true). omega (arith, eqb-true x v h)) (λ (h : has v xs ≡ true). omega (arith, asc-first x xs p v h))
         (or-cases (eqb x v) (has v xs) e)
+
     y-first : (v : ℕ) → eqb y v || has v ys ≡ true → y ≤ v
     y-first v e =
         ⊎-elim (λ (h : eqb y v ≡ true). omega (arith, eqb-true y v h)) (λ (h : has v ys ≡ true). omega (arith, asc-first y ys q v h))
         (or-cases (eqb y v) (has v ys) e)
+
     first-both : x ≡ y
     first-both =
         omega (arith, x-first y (f y ∙ or-left (eqb y y) (has y ys) (eq-eqb y y refl)), y-first x (sym (f x) ∙ or-left (eqb x x) (has x xs) (eq-eqb x x refl)))
+
     rest : (v : ℕ) → x ≡ y → has v xs ≡ has v ys
     rest v e =
         same-test (has v xs) (has v ys)
         (λ h.
-          ⊎-elim (λ (k : eqb y v ≡ true). absurd (omega (arith, asc-first x xs p v h, eqb-true y v k))) (λ (k : has v ys ≡ true). k)
-          (or-cases (eqb y v) (has v ys) (sym (f v) ∙ or-right (eqb x v) (has v xs) h)))
+        ⊎-elim (λ (k : eqb y v ≡ true). absurd (omega (arith, asc-first x xs p v h, eqb-true y v k))) (λ (k : has v ys ≡ true). k)
+        (or-cases (eqb y v) (has v ys) (sym (f v) ∙ or-right (eqb x v) (has v xs) h)))
         (λ h.
-          ⊎-elim (λ (k : eqb x v ≡ true). absurd (omega (arith, asc-first y ys q v h, eqb-true x v k))) (λ (k : has v xs ≡ true). k)
-          (or-cases (eqb x v) (has v xs) (f v ∙ or-right (eqb y v) (has v ys) h)))
+        ⊎-elim (λ (k : eqb x v ≡ true). absurd (omega (arith, asc-first y ys q v h, eqb-true x v k))) (λ (k : has v xs ≡ true). k)
+        (or-cases (eqb x v) (has v xs) (f v ∙ or-right (eqb y v) (has v ys) h)))
+
     go : x ≡ y → (((v : ℕ) → has v xs ≡ has v ys) → xs ≡ ys) → x ∷ xs ≡ y ∷ ys
     go e ih = let r : xs ≡ ys = ih (λ v. rest v e) in rw (e, r)
 
@@ -130,6 +136,7 @@ keep-select p q n =
         let both = sym (keep-has q (select p n) v) ∙ e in
         let s = select-out p n v (and-right (q v) (has v (select p n)) both) in
         select-has (λ k. q k && p k) n v (s .0) ∙ and-both (q v) (p v) (and-left (q v) (has v (select p n)) both) (s .1)
+
     back : (v : ℕ) → has v (select (λ k. q k && p k) n) ≡ true → has v (keep q (select p n)) ≡ true
     back v e =
         let s = select-out (λ k. q k && p k) n v e in

@@ -1,2 +1,3 @@
 -- The twelve cases.
 pub mod Cases
+pub mod Paper

@@ -1,1 +1,99 @@
-// The map.
+// The map: what the outline's words mean, and what each call answers.
+//
+// What is here: in specs/ the definitions, over the list of live cells alone (Cells, Siblings, Groups, Stars), the
+// answers with their refusals in the listed order (Answers), the history (History) and the twelve cases (Cases); in
+// src/ the refusals and the answers as enums, each case with the outline's number in specs/Paper.antt. What is proved:
+// `number_of` gives that number; the twelve cases hold (proofs/Cases.antt); an answer of the outline is that of one enum
+// value alone (proofs/Paper.antt). What a caller should know: the laws of these definitions are in crate `laws`.
+ghost use mathlib.Core.Path.{_≡_};
+ghost use Rattle.map.specs.Paper.{numberOf};
+use numbers::Half;
+
+// Why a call is refused: a row of the outline's table each, in its order.
+pub enum Refusal {
+    CapacityAbove,
+    MemoryShort,
+    CellOutside,
+    CellLive,
+    CellNotLive,
+    TypeUnknown,
+    CountWrong,
+    MarkOutside,
+    MarkTwice,
+    CellSame,
+    MarkFull,
+    OutputShort,
+    FacetOutside,
+    NotMesh,
+    BadFrame,
+}
+
+// The outline's number of a refusal.
+pub fn number_of(r: Refusal) -> u32
+    ensures { λ n. ⌜ n ≡ numberOf r ⌝ }
+{
+    match r {
+        Refusal::CapacityAbove => 1,
+        Refusal::MemoryShort => 2,
+        Refusal::CellOutside => 3,
+        Refusal::CellLive => 4,
+        Refusal::CellNotLive => 5,
+        Refusal::TypeUnknown => 6,
+        Refusal::CountWrong => 7,
+        Refusal::MarkOutside => 8,
+        Refusal::MarkTwice => 9,
+        Refusal::CellSame => 10,
+        Refusal::MarkFull => 11,
+        Refusal::OutputShort => 12,
+        Refusal::FacetOutside => 13,
+        Refusal::NotMesh => 14,
+        Refusal::BadFrame => 15,
+    }
+}
+
+// The answer of a call that gives nothing back: format, insert, remove.
+pub enum Verdict {
+    Accepted,
+    Refused(Refusal),
+}
+
+// One number: a type, a count, the length of a list.
+pub enum Value {
+    Is(u32),
+    Refused(Refusal),
+}
+
+// A half-facet: the sibling.
+pub enum HalfAt {
+    At(Half),
+    Refused(Refusal),
+}
+
+// A half-facet or none: the first anchor, the lookup.
+pub enum Found {
+    At(Half),
+    Nothing,
+    Refused(Refusal),
+}
+
+// Border or not.
+pub enum Truth {
+    Yes,
+    No,
+    Refused(Refusal),
+}
+
+// A build: refused with the place of the record, from 0.
+pub enum Built {
+    Accepted,
+    Refused(Refusal, u32),
+}
+
+// A walker over one sibling cycle: its place.
+pub struct Walker(pub Half);
+
+// A walker's step.
+pub enum Step {
+    Next(Walker),
+    Refused(Refusal),
+}

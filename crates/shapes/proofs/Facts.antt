@@ -55,24 +55,25 @@ empty-test = refl
 
 of-test : (s : Shape) → test s ≡ true → Facts s
 unfolding test tests facetTest facetTests sized cornered apart all repeats
-of-test s e = record
-    { facets = leb-true _ _ (passed 0 (omega arith))
-    ; corners = λ f. leb-true _ _ (facet f 0 (omega arith))
-    ; marks = leb-true _ _ (passed 1 (omega arith))
-    ; inside = λ f k h. ltb-true _ _ (all-at (λ p. ltb p (s .marks)) (facetAt s f) 0 k (facet f 1 (omega arith)) h)
-    ; distinct = λ f. not-true _ (facet f 2 (omega arith))
-    ; size = λ f h. eqb-true _ _ (below-at (length (s .facets)) (sized s) (passed 3 (omega arith)) f h)
-    ; corner = λ p h. below-at (s .marks) (cornered s) (passed 4 (omega arith)) p h
-    ; differ = λ f g hf hg same.
-        ⊎-elim (λ (n : not (sameSet (facetAt s f) (facetAt s g)) ≡ true). absurd (clash same (not-true _ n)))
-        (λ (q : eqb f g ≡ true). eqb-true f g q)
-        (or-cases (not (sameSet (facetAt s f) (facetAt s g))) (eqb f g)
-        (below-at (length (s .facets)) (apart s f)
-        (below-at (length (s .facets)) (λ f. allBelow (length (s .facets)) (apart s f)) (passed 5 (omega arith)) f hf) g hg))
-    }
+of-test s e = record {
+  facets = leb-true _ _ (passed 0 (omega arith));
+  corners = λ f. leb-true _ _ (facet f 0 (omega arith));
+  marks = leb-true _ _ (passed 1 (omega arith));
+  inside = λ f k h. ltb-true _ _ (all-at (λ p. ltb p (s .marks)) (facetAt s f) 0 k (facet f 1 (omega arith)) h);
+  distinct = λ f. not-true _ (facet f 2 (omega arith));
+  size = λ f h. eqb-true _ _ (below-at (length (s .facets)) (sized s) (passed 3 (omega arith)) f h);
+  corner = λ p h. below-at (s .marks) (cornered s) (passed 4 (omega arith)) p h;
+  differ = λ f g hf hg same.
+      ⊎-elim (λ (n : not (sameSet (facetAt s f) (facetAt s g)) ≡ true). absurd (clash same (not-true _ n)))
+      (λ (q : eqb f g ≡ true). eqb-true f g q)
+      (or-cases (not (sameSet (facetAt s f) (facetAt s g))) (eqb f g)
+      (below-at (length (s .facets)) (apart s f)
+      (below-at (length (s .facets)) (λ f. allBelow (length (s .facets)) (apart s f)) (passed 5 (omega arith)) f hf) g hg));
+}
   where
     passed : (k : ℕ) → k < 6 → getD (tests s) k true ≡ true
     passed k h = all-at (λ b. b) (tests s) true k e h
+
     facet : (f k : ℕ) → k < 3 → getD (facetTests (s .marks) (facetAt s f)) k true ≡ true
     facet f k h =
         all-at (λ b. b) (facetTests (s .marks) (facetAt s f)) true k

@@ -12,20 +12,59 @@ ghost use Rattle.shapes.specs.Table.{table, entry};
 
 // How many codes the table has, 0 for no type among them; the facets and the columns of its rows.
 const TYPES: usize = 5;
+
 const ROWS: usize = 6;
+
 const COLUMNS: usize = 5;
 
 const DIMENSIONS: [u8; TYPES] = [0, 1, 2, 2, 3];
+
 const MARKS: [u8; TYPES] = [0, 2, 3, 4, 4];
+
 const FACETS: [u8; TYPES] = [0, 2, 3, 4, 4];
 
 // For each type its facets, each as the count of its corners and their places, padded with 0.
 const PLACES: [[[u8; COLUMNS]; ROWS]; TYPES] = [
-    [[0, 0, 0, 0, 0], [0, 0, 0, 0, 0], [0, 0, 0, 0, 0], [0, 0, 0, 0, 0], [0, 0, 0, 0, 0], [0, 0, 0, 0, 0]],
-    [[1, 0, 0, 0, 0], [1, 1, 0, 0, 0], [0, 0, 0, 0, 0], [0, 0, 0, 0, 0], [0, 0, 0, 0, 0], [0, 0, 0, 0, 0]],
-    [[2, 0, 1, 0, 0], [2, 1, 2, 0, 0], [2, 2, 0, 0, 0], [0, 0, 0, 0, 0], [0, 0, 0, 0, 0], [0, 0, 0, 0, 0]],
-    [[2, 0, 1, 0, 0], [2, 1, 2, 0, 0], [2, 2, 3, 0, 0], [2, 3, 0, 0, 0], [0, 0, 0, 0, 0], [0, 0, 0, 0, 0]],
-    [[3, 0, 2, 1, 0], [3, 0, 1, 3, 0], [3, 1, 2, 3, 0], [3, 2, 0, 3, 0], [0, 0, 0, 0, 0], [0, 0, 0, 0, 0]],
+    [
+        [0, 0, 0, 0, 0],
+        [0, 0, 0, 0, 0],
+        [0, 0, 0, 0, 0],
+        [0, 0, 0, 0, 0],
+        [0, 0, 0, 0, 0],
+        [0, 0, 0, 0, 0],
+    ],
+    [
+        [1, 0, 0, 0, 0],
+        [1, 1, 0, 0, 0],
+        [0, 0, 0, 0, 0],
+        [0, 0, 0, 0, 0],
+        [0, 0, 0, 0, 0],
+        [0, 0, 0, 0, 0],
+    ],
+    [
+        [2, 0, 1, 0, 0],
+        [2, 1, 2, 0, 0],
+        [2, 2, 0, 0, 0],
+        [0, 0, 0, 0, 0],
+        [0, 0, 0, 0, 0],
+        [0, 0, 0, 0, 0],
+    ],
+    [
+        [2, 0, 1, 0, 0],
+        [2, 1, 2, 0, 0],
+        [2, 2, 3, 0, 0],
+        [2, 3, 0, 0, 0],
+        [0, 0, 0, 0, 0],
+        [0, 0, 0, 0, 0],
+    ],
+    [
+        [3, 0, 2, 1, 0],
+        [3, 0, 1, 3, 0],
+        [3, 1, 2, 3, 0],
+        [3, 2, 0, 3, 0],
+        [0, 0, 0, 0, 0],
+        [0, 0, 0, 0, 0],
+    ],
 ];
 
 fn wide(x: u8) -> u32
@@ -45,7 +84,11 @@ pub fn facet_table() -> [[[u8; COLUMNS]; ROWS]; TYPES]
 pub fn dimension(t: u32) -> u32
     ensures { λ r. ⌜ r ≡ shape t .dimension ⌝ }
 {
-    if t < 5 { wide(DIMENSIONS[t as usize]) } else { 0 }
+    if t < 5 {
+        wide(DIMENSIONS[t as usize])
+    } else {
+        0
+    }
 }
 
 // The count of a type's marks.

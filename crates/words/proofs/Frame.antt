@@ -36,10 +36,10 @@ module _ {P : ℕ → Type 0} where
   only-then a b = record { size = b .size ∙ a .size; same = λ at ne. b .same at ne ∙ a .same at ne }
 
   pub only-put : (m : List ℕ) (at v : ℕ) → P at → Only P m (set m at v)
-  only-put m at v p = record
-      { size = length-set m at v
-      ; same = λ other ne. read-other m at v other (λ e. ne (subst P (sym e) p))
-      }
+  only-put m at v p = record {
+    size = length-set m at v;
+    same = λ other ne. read-other m at v other (λ e. ne (subst P (sym e) p));
+  }
 
   pub only-wider : {Q : ℕ → Type 0} {m m′ : List ℕ} → ((at : ℕ) → P at → Q at) → Only P m m′ → Only Q m m′
   only-wider f a = record { size = a .size; same = λ at ne. a .same at (λ p. ne (f at p)) }
@@ -58,8 +58,9 @@ part-same {P} {m} {m′} at n a ne = rw (a .size) (go (leb (at + n) (length m)) 
         ext-getD 0 (take n (drop at m′)) (take n (drop at m))
         (simp (length-take, length-drop) (ap (λ (k : ℕ). min n (k - at)) (a .size)))
         (λ k below.
-          let small : k < n = omega (arith, length-take n (drop at m′)) in
-          rw (getD-take, getD-take, getD-drop, getD-drop) (a .same (at + k) (ne k small)))
+        let small : k < n = omega (arith, length-take n (drop at m′)) in
+        rw (getD-take, getD-take, getD-drop, getD-drop) (a .same (at + k) (ne k small)))
+
     go : (b : Bool) → leb (at + n) (length m) ≡ b → cond b (take n (drop at m′)) [] ≡ cond b (take n (drop at m)) []
     go true e = words (leb-true _ _ e)
     go false e = refl

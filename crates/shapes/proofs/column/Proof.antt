@@ -4,47 +4,34 @@ use Rattle.shapes.proofs.Read.{entry-in, entry-type, entry-facet, entry
 use borrow.Author.Needs.{needs}
 use Rattle.shapes.proofs.column.Statement.{statement}
 use Rattle.shapes.proofs.column.Tie as tie
-use Rattle.shapes.proofs.column.Reads as reads
-use Rattle.shapes.proofs.column.Lts as lts
-use Rattle.shapes.proofs.wide.Reads as wide-reads
 
--- src/lib.rt:71:9
 returns : tie.Need-returns
 returns c = sym (entry-type _ _ _ _ (c .if1 .taken))
 
--- src/lib.rt:74:9
 returns-2 : tie.Need-returns-2
 returns-2 c = sym (entry-facet _ _ _ _ (c .before .if1 .left) (c .if2 .taken))
 
--- src/lib.rt:77:9
 returns-3 : tie.Need-returns-3
 returns-3 c = sym (entry-column _ _ _ _ (c .before .before .if1 .left) (c .before .if2 .left) (c .if3 .taken))
 
--- src/lib.rt:79:10
 mul-wide : tie.Need-mul-wide
 mul-wide c = search needs
 
--- src/lib.rt:79:10
 mul-wide-2 : tie.Need-mul-wide-2
 mul-wide-2 c = search needs
 
--- src/lib.rt:79:10
 index-1-wide : tie.Need-index-1-wide
 index-1-wide c = search needs
 
--- src/lib.rt:79:10
 index-2-wide : tie.Need-index-2-wide
 index-2-wide c = search needs
 
--- src/lib.rt:79:10
 index-3-wide : tie.Need-index-3-wide
 index-3-wide c = search needs
 
--- src/lib.rt:79:5
 wide-requires : tie.Need-wide-requires
 wide-requires c κs = search needs
 
--- src/lib.rt:67:1
 returns-4 : tie.Need-returns-4
 returns-4 c = c .wide .ensures ∙ sym (entry-in _ _ _ _ (c .before .before .before .before .if1 .left) (c .before .before .before .if2 .left) (c .before .before .if3 .left))
 

@@ -6,24 +6,17 @@ use Rattle.shapes.proofs.Read.{by-code, no-code}
 use borrow.Author.Needs.{needs}
 use Rattle.shapes.proofs.facet_count.Statement.{statement}
 use Rattle.shapes.proofs.facet_count.Tie as tie
-use Rattle.shapes.proofs.facet_count.Reads as reads
-use Rattle.shapes.proofs.facet_count.Lts as lts
-use Rattle.shapes.proofs.wide.Reads as wide-reads
 
--- src/lib.rt:62:21
 array-read-wide : tie.Need-array-read-wide
 array-read-wide c = search needs
 
--- src/lib.rt:62:16
 wide-requires : tie.Need-wide-requires
 wide-requires c κs = search needs
 
--- src/lib.rt:59:1
 returns : tie.Need-returns
 unfolding noShape bar tri quad tetra shapes facetCount
 returns c = c .wide .ensures ∙ by-code (λ (s : Shape). length (s .facets)) (c .before .before .args .t)
 
--- src/lib.rt:59:1
 returns-2 : tie.Need-returns-2
 unfolding noShape facetCount
 returns-2 c = sym (ap (λ (s : Shape). length (s .facets)) (no-code (c .before .args .t) (c .if1 .left)))

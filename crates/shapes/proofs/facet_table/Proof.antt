@@ -4,10 +4,7 @@ use Rattle.shapes.specs.Shapes.{noShape, bar, tri, quad, tetra, shapes}
 use Rattle.shapes.specs.Table.{padded, facetRow, typeRow, table}
 use Rattle.shapes.proofs.facet_table.Statement.{statement}
 use Rattle.shapes.proofs.facet_table.Tie as tie
-use Rattle.shapes.proofs.facet_table.Reads as reads
-use Rattle.shapes.proofs.facet_table.Lts as lts
 
--- src/lib.rt:38:1
 returns : tie.Need-returns
 unfolding noShape bar tri quad tetra shapes padded facetRow typeRow table
 returns c = refl

@@ -6,24 +6,17 @@ use Rattle.shapes.proofs.Read.{by-code, no-code}
 use borrow.Author.Needs.{needs}
 use Rattle.shapes.proofs.mark_count.Statement.{statement}
 use Rattle.shapes.proofs.mark_count.Tie as tie
-use Rattle.shapes.proofs.mark_count.Reads as reads
-use Rattle.shapes.proofs.mark_count.Lts as lts
-use Rattle.shapes.proofs.wide.Reads as wide-reads
 
--- src/lib.rt:55:21
 array-read-wide : tie.Need-array-read-wide
 array-read-wide c = search needs
 
--- src/lib.rt:55:16
 wide-requires : tie.Need-wide-requires
 wide-requires c κs = search needs
 
--- src/lib.rt:52:1
 returns : tie.Need-returns
 unfolding noShape bar tri quad tetra shapes
 returns c = c .wide .ensures ∙ by-code (λ (s : Shape). s .marks) (c .before .before .args .t)
 
--- src/lib.rt:52:1
 returns-2 : tie.Need-returns-2
 unfolding noShape
 returns-2 c = sym (ap (λ (s : Shape). s .marks) (no-code (c .before .args .t) (c .if1 .left)))

@@ -4,26 +4,19 @@ use lib.Seq.{set-out}
 use borrow.Author.Needs.{needs}
 use Rattle.words.proofs.put.Statement.{statement}
 use Rattle.words.proofs.put.Tie as tie
-use Rattle.words.proofs.put.Reads as reads
-use Rattle.words.proofs.put.Lts as lts
 
--- src/lib.rt:24:9
 returns : tie.Need-returns
 returns c = sym (set-out _ _ _ (c .if1 .taken))
 
--- src/lib.rt:26:5
 mul-m : tie.Need-mul-m
 mul-m c = search needs
 
--- src/lib.rt:26:5
 slice-write-m : tie.Need-slice-write-m
 slice-write-m c = search needs
 
--- src/lib.rt:20:1
 same-length : tie.Need-same-length
 same-length c = search needs
 
--- src/lib.rt:20:1
 returns-2 : tie.Need-returns-2
 returns-2 c = search needs
 
