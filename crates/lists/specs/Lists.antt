@@ -23,6 +23,13 @@ has v (x ∷ xs) = eqb x v || has v xs
 unfoldable pub sameSet : List ℕ → List ℕ → Bool
 sameSet a b = all (λ x. has x b) a && all (λ x. has x a) b
 
+-- the same list
+unfoldable pub same : List ℕ → List ℕ → Bool
+same [] [] = true
+same [] (y ∷ ys) = false
+same (x ∷ xs) [] = false
+same (x ∷ xs) (y ∷ ys) = eqb x y && same xs ys
+
 -- a number occurs twice
 unfoldable pub repeats : List ℕ → Bool
 repeats [] = false

@@ -1,7 +1,7 @@
 -- The twelve cases hold.
 use mathlib.Core.Path.{_≡_, refl}
 use mathlib.Core.Bool.{true}
-use Rattle.lists.specs.Lists.{any, all, has, sameSet, repeats, keep, select, first, after}
+use Rattle.lists.specs.Lists.{any, all, has, same, sameSet, repeats, keep, select, first, after}
 use Rattle.numbers.specs.Half.{halfOf}
 use Rattle.shapes.specs.Shapes as S
 use Rattle.map.specs.Cells.{noCell, bodyIn, mapOf, live, dimensionAt, holds, facetsAt, shares, cellsOf}
@@ -10,7 +10,7 @@ use Rattle.map.specs.Groups.{grow, grown, groupOf}
 use Rattle.map.specs.Stars.{holders, star, linked, group, halvesAt, anchor, anchors}
 use Rattle.map.specs.Answers.{_when_, answer, listAnswer, insertChecks, cellChecks, halfChecks, starChecks, siblingAnswer, starAnswer, anchorsAnswer}
 use Rattle.map.specs.History.{mapIn, empty, without, editAnswer, made, edited, history}
-use Rattle.map.specs.Cases.{joined, replied, ask, _asked_gives_, same, bar, tri, tetra, p2, p3, p4, p5, p6, p7, p8, p9, p12, rows, holdsRow, hold}
+use Rattle.map.specs.Cases.{joined, replied, ask, _asked_gives_, bar, tri, tetra, p2, p3, p4, p5, p6, p7, p8, p9, p12, rows, holdsRow, hold}
 
 pub cases : hold rows ≡ true
 unfolding any all has sameSet repeats keep select first after halfOf S.noShape S.bar S.tri S.quad S.tetra S.shapes S.shape S.facetCount noCell bodyIn mapOf live dimensionAt holds facetsAt shares cellsOf isHalf marksOf sharers siblings sibling border grow grown groupOf holders star linked group halvesAt anchor anchors mapIn _when_ answer listAnswer insertChecks cellChecks halfChecks starChecks siblingAnswer starAnswer anchorsAnswer empty without editAnswer made edited history joined replied ask _asked_gives_ same bar tri tetra p2 p3 p4 p5 p6 p7 p8 p9 p12 rows holdsRow hold

@@ -2,9 +2,7 @@
 use mathlib.Core.Bool.{Bool, true, false, not, _&&_}
 use mathlib.Core.List.{List, [], _∷_, _++_}
 use Prim.Native.Nat.{ℕ, zero, suc, _*_}
-use lib.Dec.{eqb}
-use lib.ListN.{length}
-use Rattle.lists.specs.Lists.{all, select}
+use Rattle.lists.specs.Lists.{all, same, select}
 use Rattle.map.specs.Cells.{Map}
 use Rattle.map.specs.Siblings.{isHalf, border}
 use Rattle.map.specs.Stars.{star, anchors}
@@ -50,12 +48,6 @@ pub record Row : Type 0 where
 infix 20 _asked_gives_
 unfoldable pub _asked_gives_ : List Edit → Question → List ℕ → Row
 edits asked q gives l = record { edits = edits; question = q; answer = l }
-
-unfoldable pub same : List ℕ → List ℕ → Bool
-same [] [] = true
-same [] (y ∷ ys) = false
-same (x ∷ xs) [] = false
-same (x ∷ xs) (y ∷ ys) = eqb x y && same xs ys
 
 -- the meshes of the cases, of 5 marks and 4 cells
 unfoldable pub bar : ℕ → ℕ → ℕ → Edit
