@@ -2,3 +2,6 @@
 pub mod Cycles
 pub mod Groups
 pub mod Anchors
+pub mod Orders
+pub mod Edits
+pub mod Rebuild

@@ -6,4 +6,5 @@ pub mod Sets
 pub mod Select
 pub mod Order
 pub mod Keep
+pub mod Counts
 pub mod Cyclic

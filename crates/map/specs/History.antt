@@ -77,3 +77,6 @@ buildFrom (suc n) place m (c ∷ t ∷ rest) =
       | true ↦ buildFrom n (suc place) (made m e) (drop (shape t .marks) rest)
       | false ↦ record { refusal = editAnswer (mapIn m) e .refusal; place = place; mesh = empty (m .marks) (m .cells) }
     ]
+
+unfoldable pub build : ℕ → ℕ → List ℕ → Outcome
+build marks cells words = buildFrom (length words) 0 (empty marks cells) words
