@@ -4,6 +4,7 @@ pub mod Below
 pub mod Members
 pub mod Sets
 pub mod Select
+pub mod Scan
 pub mod Order
 pub mod Keep
 pub mod Counts

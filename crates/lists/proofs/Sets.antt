@@ -35,3 +35,12 @@ same-trans a b c e f = has-same a c (λ v. same-has a b e v ∙ same-has b c f v
 pub same-test-of : (a b c : List ℕ) → sameSet a b ≡ true → sameSet a c ≡ sameSet b c
 same-test-of a b c e =
     same-test (sameSet a c) (sameSet b c) (λ h. same-trans b a c (same-sym a b e) h) (λ h. same-trans a b c e h)
+
+-- one way first, then the other
+pub same-set-stop : (a b : List ℕ) → all (λ x. has x b) a ≡ false → sameSet a b ≡ false
+unfolding sameSet
+same-set-stop a b e = rw e
+
+pub same-set-go : (a b : List ℕ) → all (λ x. has x b) a ≡ true → sameSet a b ≡ all (λ x. has x a) b
+unfolding sameSet
+same-set-go a b e = rw e

@@ -1,1 +1,60 @@
-// Lists of numbers.
+// Lists of numbers, as slices of words.
+//
+// What is here: `has`, `subset`, `same_set` and `repeats` over slices. All are total. What is proved: each answer is that of
+// specs/Lists.antt, and proofs/ has the laws of those definitions: membership, equal sets, selections, ascending lists, cycles. What a
+// caller should know: nothing is copied; each looks at every pair of numbers at most.
+ghost use mathlib.Core.Path.{_≡_};
+ghost use Rattle.lists.specs.Lists.{has, all, sameSet, repeats};
+
+// v is in the list.
+pub fn has(l: &[u32], v: u32) -> bool
+    ensures { λ r. ⌜ r ≡ has v (now (l .entry)) ⌝ }
+{
+    let mut i = 0;
+    while i < l.len() {
+        if l[i] == v {
+            return true;
+        }
+        i += 1;
+    }
+    false
+}
+
+// All of a are in b.
+pub fn subset(a: &[u32], b: &[u32]) -> bool
+    ensures { λ r. ⌜ r ≡ all (λ x. has x (now (b .entry))) (now (a .entry)) ⌝ }
+{
+    let mut i = 0;
+    while i < a.len() {
+        if !has(b, a[i]) {
+            return false;
+        }
+        i += 1;
+    }
+    true
+}
+
+// Equal sets, whatever the order.
+pub fn same_set(a: &[u32], b: &[u32]) -> bool
+    ensures { λ r. ⌜ r ≡ sameSet (now (a .entry)) (now (b .entry)) ⌝ }
+{
+    if !subset(a, b) {
+        return false;
+    }
+    subset(b, a)
+}
+
+// A number occurs twice.
+pub fn repeats(l: &[u32]) -> bool
+    ensures { λ r. ⌜ r ≡ repeats (now (l .entry)) ⌝ }
+{
+    let mut i = 0;
+    while i < l.len() {
+        let next = i + 1;
+        if has(&l[next..], l[i]) {
+            return true;
+        }
+        i = next;
+    }
+    false
+}

@@ -1,3 +1,4 @@
 pub mod State
 pub mod Picture
 pub mod Changes
+pub mod Step

@@ -1,0 +1,73 @@
+-- One word written, and the state changed in that word alone; and two pictures of one state.
+use mathlib.Core.Path.{_≡_, refl, sym, ap, _∙_}
+use mathlib.Core.List.{List}
+use Prim.Native.Nat.{ℕ, _+_, _<_, _≤_}
+use native.Mathlib.Decide.{ℕ-discrete}
+use native.Mathlib.Omega.{arith}
+use lib.ListN.{getD, set, take, length, length-set, length-take}
+use lib.Seq.{ext-getD, getD-take, length-take-le}
+use Rattle.words.specs.Words.{Only}
+use Rattle.words.proofs.Frame.{read-same, read-other, only-put, only-none, only-then}
+use Rattle.store.specs.declared.Caps.{Caps}
+use Rattle.store.specs.Layout.{room, Slot, address, Within}
+use Rattle.store.proofs.Slots.{slot-below, slot-one, slot-of}
+use Rattle.map.specs.Cells.{Map}
+use Rattle.picture.specs.State.{State, capsOf, stateOf}
+use Rattle.picture.specs.Picture.{wordOf, Pic, Wf}
+use Rattle.picture.specs.Step.{Step}
+
+module _ (w : List ℕ) (caps : Caps) (s s′ : State) (x : Slot) (y : ℕ) where
+  -- the word of a slot is written, and no other word of the state changes
+  pub pic-put : Pic w caps s → Within (caps .marks) (caps .cells) x → wordOf caps s′ x ≡ y
+      → ((z : Slot) → Within (caps .marks) (caps .cells) z → (z ≡ x → ⊥) → wordOf caps s′ z ≡ wordOf caps s z)
+      → Pic (set w (address (caps .marks) (caps .cells) x) y) caps s′
+  pic-put p in-x e same = record
+      { marks = p .marks
+      ; cells = p .cells
+      ; fits = omega (arith, p .fits, length-set w (address (caps .marks) (caps .cells) x) y)
+      ; words = λ z in-z. at z in-z (ℕ-discrete (address (caps .marks) (caps .cells) z) (address (caps .marks) (caps .cells) x))
+      }
+    where
+      below : address (caps .marks) (caps .cells) x < length w
+      below = omega (arith, slot-below (caps .marks) (caps .cells) x in-x, p .fits)
+      at : (z : Slot) → Within (caps .marks) (caps .cells) z
+        → Dec (address (caps .marks) (caps .cells) z ≡ address (caps .marks) (caps .cells) x)
+        → getD (set w (address (caps .marks) (caps .cells) x) y) (address (caps .marks) (caps .cells) z) 0 ≡ wordOf caps s′ z
+      at z in-z (yes q) =
+          ap (λ (i : ℕ). getD (set w (address (caps .marks) (caps .cells) x) y) i 0) q
+          ∙ (read-same w (address (caps .marks) (caps .cells) x) y below
+          ∙ (sym e ∙ ap (wordOf caps s′) (sym (slot-one (caps .marks) (caps .cells) z x in-z in-x q))))
+      at z in-z (no f) =
+          read-other w (address (caps .marks) (caps .cells) x) y (address (caps .marks) (caps .cells) z) f
+          ∙ (p .words z in-z ∙ sym (same z in-z (λ q. f (ap (address (caps .marks) (caps .cells)) q))))
+
+-- a picture depends on the words of the state alone
+pub pic-same : (w : List ℕ) (caps : Caps) (s s′ : State)
+    → ((z : Slot) → Within (caps .marks) (caps .cells) z → wordOf caps s z ≡ wordOf caps s′ z) → Pic w caps s → Pic w caps s′
+pic-same w caps s s′ same p = record { marks = p .marks; cells = p .cells; fits = p .fits; words = λ z h. p .words z h ∙ same z h }
+
+-- two pictures of one state are equal word for word
+pub pic-one : (w w′ : List ℕ) (caps : Caps) (s : State) → Pic w caps s → Pic w′ caps s
+    → take (room (caps .marks) (caps .cells)) w ≡ take (room (caps .marks) (caps .cells)) w′
+pic-one w w′ caps s p q =
+    ext-getD 0 (take n w) (take n w′) (length-take-le n w (p .fits) ∙ sym (length-take-le n w′ (q .fits)))
+    (λ i h.
+      let less : i < n = omega (arith, length-take-le n w (p .fits)) in
+      getD-take n w i 0 less ∙ (word i less ∙ sym (getD-take n w′ i 0 less)))
+  where
+    n : ℕ
+    n = room (caps .marks) (caps .cells)
+    word : (i : ℕ) → i < n → getD w i 0 ≡ getD w′ i 0
+    word i h =
+        let x = slot-of (caps .marks) (caps .cells) i h in
+        rw (x .2) at (p .words (x .0) (x .1) ∙ sym (q .words (x .0) (x .1)))
+
+-- "two well-formed memories of the same capacities and live cells are equal word for word, whatever the history"
+pub wf-one : (w w′ : List ℕ) (m : Map) → Wf w m → Wf w′ m → take (room (m .marks) (m .cells)) w ≡ take (room (m .marks) (m .cells)) w′
+unfolding capsOf
+wf-one w w′ m a b = pic-one w w′ (capsOf m) (stateOf m) (a .picture) (b .picture)
+
+-- steps one after another
+pub step-then : {caps : Caps} {w w′ w″ : List ℕ} {ok ok′ : State → Type 0} {f g : State → State} → Step caps w w′ ok f → Step caps w′ w″ ok′ g
+    → Step caps w w″ (λ s. ok s × ok′ (f s)) (λ s. g (f s))
+step-then a b = record { inside = only-then (a .inside) (b .inside); state = λ s p k. b .state _ (a .state s p (k .0)) (k .1) }
