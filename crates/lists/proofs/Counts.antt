@@ -68,3 +68,7 @@ select-more p q c (suc n) l e f same =
         → length (cond b (select q n ++ (n ∷ [])) (select q n)) ≡ suc (length (cond b (select p n ++ (n ∷ [])) (select p n)))
     earlier true h = simp length-append (omega arith)
     earlier false h = h
+
+-- none below n passes: none is selected
+pub select-empty : (p : ℕ → Bool) (n : ℕ) → ((k : ℕ) → k < n → p k ≡ false) → select p n ≡ []
+select-empty p n f = select-same p (λ _. false) n f ∙ select-none (λ _. false) n (λ k. refl)

@@ -5,6 +5,7 @@ pub mod Members
 pub mod Sets
 pub mod Select
 pub mod Scan
+pub mod Fill
 pub mod Order
 pub mod Keep
 pub mod Counts

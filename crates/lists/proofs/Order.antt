@@ -13,7 +13,7 @@ use lib.ListN.{length, getD}
 use Rattle.lists.specs.Lists.{has, keep, select, first, repeats}
 use Rattle.lists.specs.Ascending.{Ascending}
 use Rattle.lists.proofs.Bools.{clash, and-left, and-right, and-both, or-cases, or-left, or-right, same-test, not-true-false}
-use Rattle.lists.proofs.Members.{has-append, has-one, has-at, at-has, keep-has}
+use Rattle.lists.proofs.Members.{has-append, has-one, has-at, at-has, keep-has, first-has}
 use Rattle.lists.proofs.Select.{select-out, select-has}
 
 -- by the first and the rest
@@ -142,3 +142,15 @@ keep-select p q n =
         let s = select-out (λ k. q k && p k) n v e in
         keep-has q (select p n) v
         ∙ and-both (q v) (has v (select p n)) (and-left (q v) (p v) (s .1)) (select-has p n v (s .0) ∙ and-right (q v) (p v) (s .1))
+
+-- the first that passes is the first selected
+pub first-select : (d : ℕ) (p : ℕ → Bool) (n k : ℕ) → k < n → p k ≡ true → ((j : ℕ) → j < k → p j ≡ false) → first d (select p n) ≡ k
+first-select d p n k h e before = go (eq-or-lt-of-le {n = first d (select p n)} {m = k} least)
+  where
+    in-k : has k (select p n) ≡ true
+    in-k = select-has p n k h ∙ e
+    least : first d (select p n) ≤ k
+    least = first-least d (select p n) (select-ascends p n) k in-k
+    go : (first d (select p n) ≡ k) ⊎ (first d (select p n) < k) → first d (select p n) ≡ k
+    go (inl q) = q
+    go (inr less) = absurd (clash (select-out p n (first d (select p n)) (first-has d (select p n) k in-k) .1) (before (first d (select p n)) less))

@@ -62,3 +62,8 @@ from h l = keep (leb h) l ++ keep (λ k. ltb k h) l
 unfoldable pub steps : (ℕ → ℕ) → ℕ → ℕ → ℕ
 steps f zero h = h
 steps f (suc n) h = f (steps f n h)
+
+-- f 0, f 1, and so on, n of them
+unfoldable pub listOf : ℕ → (ℕ → ℕ) → List ℕ
+listOf zero f = []
+listOf (suc n) f = listOf n f ++ (f n ∷ [])

@@ -1,0 +1,30 @@
+-- The first facet with a set of marks.
+use mathlib.Core.Path.{_≡_, refl, sym, ap, _∙_}
+use mathlib.Core.Bool.{Bool, true, false}
+use mathlib.Core.List.{List}
+use Prim.Native.Nat.{ℕ, _+_, _<_, _≤_}
+use lib.ListN.{getD}
+use Rattle.lists.specs.Lists.{sameSet, select, first}
+use Rattle.lists.proofs.Order.{first-select}
+use Rattle.lists.proofs.Counts.{select-empty}
+use Rattle.shapes.specs.Shapes.{facetCount}
+use Rattle.store.specs.declared.Caps.{Caps}
+use Rattle.store.specs.Layout.{cellAt}
+use Rattle.facet.specs.Facet.{codeIn, facetIn, matchIn}
+
+module _ (w : List ℕ) (caps : Caps) (rows : List (List (List ℕ))) (c : ℕ) (set : List ℕ) (t n : ℕ)
+    (code : t ≡ getD w (cellAt (caps .marks) c + 0) 0) (count : n ≡ facetCount t) where
+  facets : facetCount (codeIn w caps c) ≡ n
+  unfolding codeIn
+  facets = sym (count ∙ ap facetCount code)
+
+  pub match-found : (f : ℕ) → ((k : ℕ) → k < f → sameSet set (facetIn w caps rows c k) ≡ false)
+      → sameSet set (facetIn w caps rows c f) ≡ true → f < n → f ≡ matchIn w caps rows c set
+  unfolding matchIn
+  match-found f before e h =
+      rw facets (sym (first-select 8 (λ f. sameSet set (facetIn w caps rows c f)) n f h e before))
+
+  pub match-none : (f : ℕ) → ((k : ℕ) → k < f → sameSet set (facetIn w caps rows c k) ≡ false) → f ≡ n → 8 ≡ matchIn w caps rows c set
+  unfolding matchIn first
+  match-none f before e =
+      rw (facets, select-empty (λ f. sameSet set (facetIn w caps rows c f)) n (rw e at before))
