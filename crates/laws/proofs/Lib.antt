@@ -5,3 +5,5 @@ pub mod Anchors
 pub mod Orders
 pub mod Edits
 pub mod Rebuild
+pub mod Local
+pub mod Counted

@@ -9,4 +9,5 @@ pub mod Fill
 pub mod Order
 pub mod Keep
 pub mod Counts
+pub mod Alike
 pub mod Cyclic

@@ -1,3 +1,4 @@
 -- The laws that the layers above cite.
 pub mod Read
 pub mod Facts
+pub mod Padded
