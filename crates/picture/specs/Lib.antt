@@ -2,3 +2,4 @@ pub mod State
 pub mod Picture
 pub mod Changes
 pub mod Step
+pub mod Ready

@@ -29,6 +29,10 @@ next (x ∷ xs) = suc x
 unfoldable pub capsOf : Map → Caps
 capsOf m = record { marks = m .marks; cells = m .cells }
 
+-- the map that a state's cells make
+unfoldable pub mapWith : Caps → State → Map
+mapWith caps s = record { marks = caps .marks; cells = caps .cells; at = s .at }
+
 unfoldable pub stateOf : Map → State
 stateOf m = record
     { at = m .at
