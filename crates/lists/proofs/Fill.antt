@@ -4,9 +4,9 @@ use mathlib.Core.List.{List, [], _∷_, _++_, append-assoc}
 use Prim.Native.Nat.{ℕ, zero, suc, _+_, _<_, _≤_}
 use native.Mathlib.Omega.{arith}
 use lib.ListN.{length, getD, set, take, drop, length-set, length-append}
-use lib.Seq.{drop-cons, set-at, take-at, take-append-seam}
+use lib.Seq.{drop-cons, set-at, take-suc, take-append-seam}
 use Rattle.lists.specs.Lists.{listOf}
-use Rattle.lists.specs.Filled.{Filled}
+use Rattle.lists.specs.Filled.{Filled, Copied}
 
 pub fill-start : (o : List ℕ) → Filled [] o o
 fill-start o = record { size = refl; wrote = λ _. refl }
@@ -31,3 +31,16 @@ pub length-listOf : (n : ℕ) (f : ℕ → ℕ) → length (listOf n f) ≡ n
 unfolding listOf
 length-listOf zero f = refl
 length-listOf (suc n) f = length-append (listOf n f) (f n ∷ []) ∙ omega (arith, length-listOf n f)
+
+-- one more, counted
+pub copy-more : (l o o′ o″ : List ℕ) (n x : ℕ) → Copied l o n o′ → o″ ≡ set o′ n x → Copied (l ++ (x ∷ [])) o (n + 1) o″
+copy-more l o o′ o″ n x f e = record
+    { count = omega (arith, length-append l (x ∷ []), f .count)
+    ; filled = rw e (fill-more l o o′ n x (f .filled) (f .count))
+    }
+
+-- the first n of a list, read place by place
+pub listOf-take : (l : List ℕ) (n : ℕ) → n ≤ length l → listOf n (λ i. getD l i 0) ≡ take n l
+unfolding listOf
+listOf-take l zero h = refl
+listOf-take l (suc n) h = rw (listOf-take l n (omega arith)) (sym (take-suc l n 0 h))

@@ -1,7 +1,7 @@
 -- More laws of lists: what is kept, by a test and by a wider one; the first; what is in a list mapped.
 use mathlib.Core.Path.{_≡_, refl, sym, ap, _∙_}
 use mathlib.Core.Bool.{Bool, true, false, cond, _&&_}
-use mathlib.Core.List.{List, [], _∷_, map}
+use mathlib.Core.List.{List, [], _∷_, _++_, map}
 use mathlib.Core.Logic.{⊎-elim, _⊎_, inl, inr}
 use Prim.Native.Nat.{ℕ, suc, _<_, _≤_}
 use native.Mathlib.Omega.{arith}
@@ -64,3 +64,24 @@ map-has f (x ∷ xs) v e =
     ⊎-elim (λ h. or-left _ _ (eq-eqb (f x) (f v) (ap f (eqb-true x v h))))
     (λ h. or-right (eqb (f x) (f v)) _ (map-has f xs v h))
     (or-cases _ _ e)
+
+-- one more at the end
+pub keep-yes : (p : ℕ → Bool) (l : List ℕ) (x : ℕ) → p x ≡ true → keep p (l ++ (x ∷ [])) ≡ keep p l ++ (x ∷ [])
+unfolding keep
+keep-yes p [] x e = rw e
+keep-yes p (y ∷ ys) x e = go (p y) (keep-yes p ys x e)
+  where
+    go : (b : Bool) → keep p (ys ++ (x ∷ [])) ≡ keep p ys ++ (x ∷ [])
+      → cond b (y ∷ keep p (ys ++ (x ∷ []))) (keep p (ys ++ (x ∷ []))) ≡ cond b (y ∷ keep p ys) (keep p ys) ++ (x ∷ [])
+    go true q = ap (_∷_ y) q
+    go false q = q
+
+pub keep-no : (p : ℕ → Bool) (l : List ℕ) (x : ℕ) → p x ≡ false → keep p (l ++ (x ∷ [])) ≡ keep p l
+unfolding keep
+keep-no p [] x e = rw e
+keep-no p (y ∷ ys) x e = go (p y) (keep-no p ys x e)
+  where
+    go : (b : Bool) → keep p (ys ++ (x ∷ [])) ≡ keep p ys
+      → cond b (y ∷ keep p (ys ++ (x ∷ []))) (keep p (ys ++ (x ∷ []))) ≡ cond b (y ∷ keep p ys) (keep p ys)
+    go true q = ap (_∷_ y) q
+    go false q = q

@@ -1,0 +1,2 @@
+-- The laws of the star's reader.
+pub mod Along
