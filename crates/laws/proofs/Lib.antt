@@ -5,5 +5,6 @@ pub mod Anchors
 pub mod Orders
 pub mod Edits
 pub mod Rebuild
+pub mod Halves
 pub mod Local
 pub mod Counted

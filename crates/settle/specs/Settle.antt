@@ -1,0 +1,42 @@
+-- After a cell has come or gone, what is around it is settled: the siblings of its facets' sets, the first anchors of its marks.
+use mathlib.Core.Path.{_≡_}
+use mathlib.Core.Bool.{Bool, true, false, _&&_}
+use mathlib.Core.List.{List, map}
+
+use Prim.Native.Nat.{ℕ, _<_, _≤_}
+use lib.ListN.{getD, length}
+use Rattle.lists.specs.Lists.{has, any, sameSet}
+use Rattle.shapes.specs.Shapes.{shape}
+use Rattle.shapes.specs.Table.{table}
+use Rattle.store.specs.declared.Caps.{Caps}
+use Rattle.map.specs.Cells.{Map}
+use Rattle.map.specs.Siblings.{isHalf, marksOf}
+use Rattle.picture.specs.State.{State, mapWith, stateOf}
+use Rattle.picture.specs.Ready.{Ready}
+
+-- the sets of marks of the facets of a type on these marks
+unfoldable pub setsOf : ℕ → List ℕ → List (List ℕ)
+setsOf t marks = map (map (λ (place : ℕ). getD marks place 0)) (shape t .facets)
+
+-- the half-facet is live and has one of the sets
+unfoldable pub among : Map → List (List ℕ) → ℕ → Bool
+among m sets h = isHalf m h && any (sameSet (marksOf m h)) sets
+
+-- a cell of type t on these marks has come or gone: elsewhere siblings and first anchors are right
+pub record MaySettle (caps : Caps) (rows : List (List (List ℕ))) (t : ℕ) (marks : List ℕ) (s : State) : Type 0 where
+  pub ready : Ready caps s
+  pub types : rows ≡ table
+  pub count : length marks ≡ shape t .marks
+  pub inside : (v : ℕ) → has v marks ≡ true → v < caps .marks
+  pub sibs : (h : ℕ) → among (mapWith caps s) (setsOf t marks) h ≡ false → s .sib h ≡ stateOf (mapWith caps s) .sib h
+  pub ancs : (d v : ℕ) → has v marks ≡ false → s .anc d v ≡ stateOf (mapWith caps s) .anc d v
+
+-- all siblings and first anchors right
+unfoldable pub settled : Caps → State → State
+settled caps s = record
+    { at = s .at
+    ; chain = s .chain
+    ; sib = stateOf (mapWith caps s) .sib
+    ; anc = stateOf (mapWith caps s) .anc
+    ; count = s .count
+    }
