@@ -1,3 +1,4 @@
 -- The laws that the layers above cite.
 pub mod Put
 pub mod Writers
+pub mod Bodies

@@ -3,3 +3,4 @@ pub mod Picture
 pub mod Changes
 pub mod Step
 pub mod Ready
+pub mod Writes

@@ -25,3 +25,7 @@ pub record Tells (w : List ℕ) (caps : Caps) (ok : State → Type 0) (test : Ma
 pub record AtMark (caps : Caps) (v : ℕ) (s : State) : Type 0 where
   pub ready : Ready caps s
   pub mark : v < caps .marks
+
+-- a word, by the map of any state that allows it
+pub record Reads (w : List ℕ) (caps : Caps) (ok : State → Type 0) (value : Map → ℕ) (r : ℕ) : Type 0 where
+  pub reads : (s : State) → Pic w caps s → ok s → r ≡ value (mapWith caps s)
