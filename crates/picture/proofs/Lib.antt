@@ -2,3 +2,4 @@
 pub mod Put
 pub mod Writers
 pub mod Bodies
+pub mod Alike

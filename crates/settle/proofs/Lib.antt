@@ -1,2 +1,3 @@
 -- The laws of settling.
 pub mod Sibs
+pub mod Ancs

@@ -27,7 +27,7 @@ pub record Sibs (caps : Caps) (s s′ : State) (sets : List (List ℕ)) : Type 0
   pub right : (h : ℕ) → among (mapWith caps s) sets h ≡ false → s′ .sib h ≡ stateOf (mapWith caps s) .sib h
 
 module _ (caps : Caps) (s : State) where
-  same-map : (s′ : State) → s′ .at ≡ s .at → mapWith caps s′ ≡ mapWith caps s
+  pub same-map : (s′ : State) → s′ .at ≡ s .at → mapWith caps s′ ≡ mapWith caps s
   unfolding mapWith
   same-map s′ e = ap (λ (at : ℕ → _). record { marks = caps .marks; cells = caps .cells; at = at }) e
 

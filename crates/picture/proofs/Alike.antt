@@ -1,0 +1,45 @@
+-- States that agree in all that is stored have the same words.
+use mathlib.Core.Path.{_≡_, refl, sym, ap, _∙_}
+use mathlib.Core.Bool.{Bool}
+use mathlib.Core.List.{List, [], _∷_}
+use Prim.Native.Nat.{ℕ, zero, suc, _≤_}
+use native.Mathlib.Omega.{arith}
+use lib.ListN.{getD}
+use Rattle.store.specs.declared.Caps.{Caps}
+use Rattle.store.specs.Layout.{Slot, Head, Mark, Cell, Cold}
+use Rattle.map.specs.Cells.{Body}
+use Rattle.picture.specs.State.{State}
+use Rattle.picture.specs.Picture.{chainOf, link, corner, linkWord, headWords, markWords, cellWords, wordOf, Pic}
+use Rattle.picture.proofs.Put.{pic-same}
+
+-- a state with other first anchors
+abbrev pub withAncs : State → (ℕ → ℕ → ℕ) → State
+withAncs s anc = record { at = s .at; chain = s .chain; sib = s .sib; anc = anc; count = s .count }
+
+module _ (caps : Caps) (s : State) (anc : ℕ → ℕ → ℕ) (same : (d v : ℕ) → 1 ≤ d → d ≤ 3 → s .anc d v ≡ anc d v) where
+  ancs-words : (z : Slot) → wordOf caps s z ≡ wordOf caps (withAncs s anc) z
+  unfolding wordOf headWords markWords cellWords link chainOf corner linkWord
+  ancs-words (Head k) = refl
+  ancs-words (Cell c k) = refl
+  ancs-words (Cold c k) = refl
+  ancs-words (Mark v k) = at k
+    where
+      at : (k : ℕ) → getD (markWords caps s v) k 0 ≡ getD (markWords caps (withAncs s anc) v) k 0
+      at zero = refl
+      at (suc zero) = refl
+      at (suc (suc zero)) = same 1 v (omega arith) (omega arith)
+      at (suc (suc (suc zero))) = same 2 v (omega arith) (omega arith)
+      at (suc (suc (suc (suc zero)))) = same 3 v (omega arith) (omega arith)
+      at (suc (suc (suc (suc (suc k))))) = refl
+
+  pub pic-ancs : (w : List ℕ) → Pic w caps s → Pic w caps (withAncs s anc)
+  pic-ancs w p = pic-same w caps s (withAncs s anc) (λ z h. ancs-words z) p
+
+-- a state is its fields
+pub state-same : (s s′ : State) → s .at ≡ s′ .at → s .chain ≡ s′ .chain → s .sib ≡ s′ .sib → s .anc ≡ s′ .anc → s .count ≡ s′ .count → s ≡ s′
+state-same s s′ a b c d e =
+    ap (λ (at : ℕ → Body). record { at = at; chain = s .chain; sib = s .sib; anc = s .anc; count = s .count }) a
+    ∙ (ap (λ (chain : ℕ → ℕ → Bool). record { at = s′ .at; chain = chain; sib = s .sib; anc = s .anc; count = s .count }) b
+    ∙ (ap (λ (sib : ℕ → ℕ). record { at = s′ .at; chain = s′ .chain; sib = sib; anc = s .anc; count = s .count }) c
+    ∙ (ap (λ (anc : ℕ → ℕ → ℕ). record { at = s′ .at; chain = s′ .chain; sib = s′ .sib; anc = anc; count = s .count }) d
+    ∙ ap (λ (count : ℕ → ℕ). record { at = s′ .at; chain = s′ .chain; sib = s′ .sib; anc = s′ .anc; count = count }) e)))

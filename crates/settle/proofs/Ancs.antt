@@ -1,0 +1,93 @@
+-- Mark by mark the first anchors are put, until all are right; then the state is settled.
+use mathlib.Core.Path.{_≡_, refl, sym, ap, _∙_, subst, fun-ext}
+use mathlib.Core.Bool.{Bool, true, false, cond, _&&_, _||_}
+use mathlib.Core.List.{List, [], _∷_}
+use Prim.Native.Nat.{ℕ, zero, suc, _+_, _*_, _<_, _≤_}
+use native.Mathlib.Decide.{ℕ-discrete}
+use native.Mathlib.Omega.{arith}
+use borrow.Author.Tests.{eq-eqb, ne-eqb, eqb-true}
+use lib.Dec.{eqb}
+use lib.ListN.{getD}
+use Rattle.lists.specs.Lists.{has, any}
+use Rattle.lists.proofs.Alike.{and-false}
+use Rattle.store.specs.declared.Caps.{Caps}
+use Rattle.store.specs.Layout.{Slot, Head, Mark, Cell, Cold, Within}
+use Rattle.map.specs.Cells.{Map}
+use Rattle.map.specs.Siblings.{isHalf}
+use Rattle.picture.specs.State.{State, mapWith, stateOf}
+use Rattle.picture.specs.Picture.{chainOf, link, corner, linkWord, headWords, markWords, cellWords, wordOf, Pic}
+use Rattle.picture.specs.Changes.{withAnc}
+use Rattle.picture.specs.Ready.{Ready, Settled}
+use Rattle.picture.proofs.Alike.{withAncs, pic-ancs, state-same}
+use Rattle.settle.specs.Settle.{among, settled}
+use Rattle.settle.proofs.Sibs.{Sibs, same-map}
+
+-- s′ is s with first anchors right, but for the marks that are left
+pub record Ancs (caps : Caps) (s s′ : State) (marks : List ℕ) : Type 0 where
+  pub at : s′ .at ≡ s .at
+  pub chain : s′ .chain ≡ s .chain
+  pub sib : s′ .sib ≡ s .sib
+  pub count : s′ .count ≡ s .count
+  pub right : (d v : ℕ) → 1 ≤ d → d ≤ 3 → has v marks ≡ false → s′ .anc d v ≡ stateOf (mapWith caps s) .anc d v
+
+module _ (caps : Caps) (s : State) where
+  -- the three first anchors of a mark
+  pub put-three : State → ℕ → State
+  put-three s′ v =
+      withAnc (withAnc (withAnc s′ 1 v (stateOf (mapWith caps s) .anc 1 v)) 2 v (stateOf (mapWith caps s) .anc 2 v)) 3 v (stateOf (mapWith caps s) .anc 3 v)
+
+  three-here : (s′ : State) (v d : ℕ) → 1 ≤ d → d ≤ 3 → put-three s′ v .anc d v ≡ stateOf (mapWith caps s) .anc d v
+  unfolding put-three withAnc
+  three-here s′ v zero a b = absurd (omega arith)
+  three-here s′ v (suc zero) a b = rw (eq-eqb v v refl)
+  three-here s′ v (suc (suc zero)) a b = rw (eq-eqb v v refl)
+  three-here s′ v (suc (suc (suc zero))) a b = rw (eq-eqb v v refl)
+  three-here s′ v (suc (suc (suc (suc d)))) a b = absurd (omega arith)
+
+  three-other : (s′ : State) (v d u : ℕ) → (v ≡ u → ⊥) → put-three s′ v .anc d u ≡ s′ .anc d u
+  unfolding put-three withAnc
+  three-other s′ v d u ne =
+      rw (ne-eqb v u ne) (go (eqb 3 d) (eqb 2 d) (eqb 1 d))
+    where
+      go : (p q r : Bool) → cond (p && false) (stateOf (mapWith caps s) .anc 3 v)
+        (cond (q && false) (stateOf (mapWith caps s) .anc 2 v) (cond (r && false) (stateOf (mapWith caps s) .anc 1 v) (s′ .anc d u)))
+        ≡ s′ .anc d u
+      go true true true = refl
+      go true true false = refl
+      go true false true = refl
+      go true false false = refl
+      go false true true = refl
+      go false true false = refl
+      go false false true = refl
+      go false false false = refl
+
+  pub ancs-more : (s′ : State) (v : ℕ) (marks : List ℕ) → Ancs caps s s′ (v ∷ marks) → Ancs caps s (put-three s′ v) marks
+  unfolding put-three withAnc has
+  ancs-more s′ v marks p = record
+      { at = p .at
+      ; chain = p .chain
+      ; sib = p .sib
+      ; count = p .count
+      ; right = λ d u a b e. go d u a b e (ℕ-discrete v u)
+      }
+    where
+      go : (d u : ℕ) → 1 ≤ d → d ≤ 3 → has u marks ≡ false → Dec (v ≡ u) → put-three s′ v .anc d u ≡ stateOf (mapWith caps s) .anc d u
+      go d u a b e (yes q) = subst (λ (x : ℕ). put-three s′ v .anc d x ≡ stateOf (mapWith caps s) .anc d x) q (three-here s′ v d a b)
+      go d u a b e (no f) = three-other s′ v d u f ∙ p .right d u a b (rw (ne-eqb v u f) e)
+
+-- all siblings and all first anchors right: settled
+pub settled-pic : (w : List ℕ) (caps : Caps) (s s′ s″ : State) → Sibs caps s s′ [] → Ancs caps s′ s″ [] → Pic w caps s″ → Pic w caps (settled caps s)
+unfolding settled has among any
+settled-pic w caps s s′ s″ p q pic =
+    subst (λ (x : State). Pic w caps x) fields (pic-ancs caps s″ (stateOf (mapWith caps s) .anc) ancs w pic)
+  where
+    maps : mapWith caps s′ ≡ mapWith caps s
+    maps = same-map caps s s′ (p .at)
+    ancs : (d v : ℕ) → 1 ≤ d → d ≤ 3 → s″ .anc d v ≡ stateOf (mapWith caps s) .anc d v
+    ancs d v a b = q .right d v a b refl ∙ ap (λ (m : Map). stateOf m .anc d v) maps
+    sibs : (h : ℕ) → s′ .sib h ≡ stateOf (mapWith caps s) .sib h
+    sibs h = p .right h (and-false (isHalf (mapWith caps s) h))
+    fields : withAncs s″ (stateOf (mapWith caps s) .anc) ≡ settled caps s
+    fields =
+        state-same (withAncs s″ (stateOf (mapWith caps s) .anc)) (settled caps s) (q .at ∙ p .at) (q .chain ∙ p .chain)
+        (q .sib ∙ fun-ext sibs) refl (q .count ∙ p .count)
