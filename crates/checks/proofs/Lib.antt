@@ -1,0 +1,2 @@
+-- The laws that the calls cite.
+pub mod Rows

@@ -1,0 +1,109 @@
+-- Each row of checks, check by check.
+use mathlib.Core.Path.{_≡_, refl, sym, ap, _∙_}
+use mathlib.Core.Bool.{Bool, true, false, cond, not, _&&_, _||_}
+use mathlib.Core.List.{List, [], _∷_, _++_}
+use Prim.Native.Nat.{ℕ, suc, _+_, _<_, _≤_}
+use native.Mathlib.Omega.{arith}
+use borrow.Author.Tests.{le-leb, lt-leb, lt-ltb, le-ltb, eq-eqb, ne-eqb}
+use lib.Dec.{leb, ltb, eqb}
+use lib.ListN.{getD}
+use Rattle.shapes.specs.Shapes.{shape, facetCount}
+use Rattle.store.specs.declared.Caps.{Caps}
+use Rattle.store.specs.Layout.{cellAt, Cell, address}
+use Rattle.map.specs.Cells.{Map, live}
+use Rattle.map.specs.Answers.{Check, _when_, answer, cellChecks, halfChecks, starChecks, typeChecks}
+use Rattle.map.specs.Paper.{numberOf, given, refused, verdictSays}
+use Rattle.map.specs.declared.Refusal.the-variants.{CellOutside, CellNotLive, TypeUnknown, MarkOutside, FacetOutside}
+use Rattle.map.specs.declared.Verdict.the-variants.{Accepted, Refused}
+use Rattle.picture.specs.State.{capsOf, stateOf}
+use Rattle.picture.specs.Picture.{wordOf, cellWords, Wf}
+use Rattle.checks.specs.Checked.{Checked}
+
+module _ (caps : Caps) (m : Map) (e : capsOf m ≡ caps) where
+  pub marks-of : m .marks ≡ caps .marks
+  unfolding capsOf
+  marks-of = ap (λ (c : Caps). c .marks) e
+
+  pub cells-of : m .cells ≡ caps .cells
+  unfolding capsOf
+  cells-of = ap (λ (c : Caps). c .cells) e
+
+  -- a record's first word is the type
+  pub code-of : (w : List ℕ) → Wf w m → (c : ℕ) → c < caps .cells → getD w (cellAt (caps .marks) c + 0) 0 ≡ m .at c .code
+  unfolding capsOf stateOf address wordOf cellWords
+  code-of w wf c h = rw (← marks-of) (wf .picture .words (Cell c 0) (omega (arith, cells-of), omega arith))
+
+module _ (w : List ℕ) (caps : Caps) (c : ℕ) where
+  pub cell-outside : caps .cells ≤ c → Checked w caps (λ m. cellChecks m c) (Refused CellOutside)
+  unfolding cellChecks _when_ answer verdictSays refused
+  cell-outside h = record { says = λ m e wf. rw (le-leb (m .cells) c (omega (arith, cells-of caps m e))) }
+
+  module _ (h : c < caps .cells) (t : ℕ) (word : t ≡ getD w (cellAt (caps .marks) c + 0) 0) where
+    code : (m : Map) → capsOf m ≡ caps → Wf w m → m .at c .code ≡ t
+    code m e wf = sym (code-of caps m e w wf c h) ∙ sym word
+
+    alive : (m : Map) → capsOf m ≡ caps → Wf w m → (t ≡ 0 → ⊥) → live m c ≡ true
+    unfolding live
+    alive m e wf ne = rw (ne-eqb (m .at c .code) 0 (λ z. ne (sym (code m e wf) ∙ z)))
+
+    dead : (m : Map) → capsOf m ≡ caps → Wf w m → t ≡ 0 → live m c ≡ false
+    unfolding live
+    dead m e wf z = rw (eq-eqb (m .at c .code) 0 (code m e wf ∙ z))
+
+    below : (m : Map) → capsOf m ≡ caps → leb (m .cells) c ≡ false
+    below m e = lt-leb (m .cells) c (omega (arith, cells-of caps m e))
+
+    pub cell-dead : t ≡ 0 → Checked w caps (λ m. cellChecks m c) (Refused CellNotLive)
+    unfolding cellChecks _when_ answer verdictSays refused
+    cell-dead z = record { says = λ m e wf. rw (below m e, dead m e wf z) }
+
+    pub cell-live : (t ≡ 0 → ⊥) → Checked w caps (λ m. cellChecks m c) Accepted
+    unfolding cellChecks _when_ answer verdictSays given
+    cell-live ne = record { says = λ m e wf. rw (below m e, alive m e wf ne) }
+
+    module _ (f n : ℕ) (count : n ≡ facetCount t) where
+      pub half-dead : t ≡ 0 → Checked w caps (λ m. halfChecks m c f) (Refused CellNotLive)
+      unfolding halfChecks cellChecks _when_ answer verdictSays refused
+      half-dead z = record { says = λ m e wf. rw (below m e, dead m e wf z) }
+
+      pub half-facet : (t ≡ 0 → ⊥) → n ≤ f → Checked w caps (λ m. halfChecks m c f) (Refused FacetOutside)
+      unfolding halfChecks cellChecks _when_ answer verdictSays refused
+      half-facet ne less = record
+          { says = λ m e wf. rw (below m e, alive m e wf ne, code m e wf, le-leb (facetCount t) f (omega arith)) }
+
+      pub half-live : (t ≡ 0 → ⊥) → f < n → Checked w caps (λ m. halfChecks m c f) Accepted
+      unfolding halfChecks cellChecks _when_ answer verdictSays given
+      half-live ne less = record
+          { says = λ m e wf. rw (below m e, alive m e wf ne, code m e wf, lt-leb (facetCount t) f (omega arith)) }
+
+  pub half-outside : (f : ℕ) → caps .cells ≤ c → Checked w caps (λ m. halfChecks m c f) (Refused CellOutside)
+  unfolding halfChecks cellChecks _when_ answer verdictSays refused
+  half-outside f h = record { says = λ m e wf. rw (le-leb (m .cells) c (omega (arith, cells-of caps m e))) }
+
+module _ (w : List ℕ) (caps : Caps) (d v : ℕ) where
+  pub star-low : d < 1 → Checked w caps (λ m. starChecks m d v) (Refused TypeUnknown)
+  unfolding starChecks _when_ answer verdictSays refused
+  star-low h = record { says = λ m e wf. rw (lt-ltb d 1 h) }
+
+  module _ (low : 1 ≤ d) where
+    pub star-high : 3 < d → Checked w caps (λ m. starChecks m d v) (Refused TypeUnknown)
+    unfolding starChecks _when_ answer verdictSays refused
+    star-high h = record { says = λ m e wf. rw (le-ltb d 1 low, lt-ltb 3 d h) }
+
+    module _ (high : d ≤ 3) where
+      pub star-mark : caps .marks ≤ v → Checked w caps (λ m. starChecks m d v) (Refused MarkOutside)
+      unfolding starChecks _when_ answer verdictSays refused
+      star-mark h = record { says = λ m e wf. rw (le-ltb d 1 low, le-ltb 3 d high, le-leb (m .marks) v (omega (arith, marks-of caps m e))) }
+
+      pub star-good : v < caps .marks → Checked w caps (λ m. starChecks m d v) Accepted
+      unfolding starChecks _when_ answer verdictSays given
+      star-good h = record { says = λ m e wf. rw (le-ltb d 1 low, le-ltb 3 d high, lt-leb (m .marks) v (omega (arith, marks-of caps m e))) }
+
+module _ (w : List ℕ) (caps : Caps) (t n : ℕ) (kind : n ≡ shape t .dimension) where
+  pub type-none : n ≡ 0 → Checked w caps (λ m. typeChecks t) (Refused TypeUnknown)
+  unfolding typeChecks _when_ answer verdictSays refused
+  type-none z = record { says = λ m e wf. rw (eq-eqb (shape t .dimension) 0 (sym kind ∙ z)) }
+
+  pub type-good : (n ≡ 0 → ⊥) → Checked w caps (λ m. typeChecks t) Accepted
+  unfolding typeChecks _when_ answer verdictSays given
+  type-good ne = record { says = λ m e wf. rw (ne-eqb (shape t .dimension) 0 (λ z. ne (kind ∙ z))) }

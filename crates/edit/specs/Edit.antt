@@ -1,0 +1,48 @@
+-- An edit made in memory.
+use mathlib.Core.Path.{_≡_}
+use mathlib.Core.Bool.{Bool, true, false, cond, _&&_}
+use mathlib.Core.List.{List}
+use Prim.Native.Nat.{ℕ, _+_, _<_}
+use lib.Dec.{eqb}
+use lib.ListN.{length}
+use Rattle.lists.specs.Lists.{has}
+use Rattle.words.specs.Words.{Only}
+use Rattle.store.specs.declared.Caps.{Caps}
+use Rattle.store.specs.Layout.{room}
+use Rattle.map.specs.Cells.{Map}
+use Rattle.map.specs.History.{Edit, editAnswer, changed}
+use Rattle.picture.specs.State.{State, capsOf}
+use Rattle.picture.specs.Picture.{Wf, chainOf}
+use Rattle.chain.specs.Chain.{Linked}
+
+-- the cell c in all chains of these marks, or out of them
+unfoldable pub withLinks : State → ℕ → List ℕ → Bool → State
+withLinks s c marks on = record
+    { at = s .at
+    ; chain = λ u k. cond (eqb c k && has u marks) on (s .chain u k)
+    ; sib = s .sib
+    ; anc = s .anc
+    ; count = s .count
+    }
+
+-- the cell, whose marks these are, may go into their chains
+pub record MayLink (caps : Caps) (c : ℕ) (marks : List ℕ) (s : State) : Type 0 where
+  pub linked : Linked caps s
+  pub cell : c < caps .cells
+  pub corners : s .at c .marks ≡ marks
+  pub inside : (v : ℕ) → has v marks ≡ true → v < caps .marks
+  pub loose : (v : ℕ) → has v marks ≡ true → s .chain v c ≡ false
+  pub few : (v : ℕ) → has v marks ≡ true → length (chainOf caps s v) + 1 < 129
+
+-- or out of them
+pub record MayUnlink (caps : Caps) (c : ℕ) (marks : List ℕ) (s : State) : Type 0 where
+  pub linked : Linked caps s
+  pub cell : c < caps .cells
+  pub corners : s .at c .marks ≡ marks
+  pub inside : (v : ℕ) → has v marks ≡ true → v < caps .marks
+  pub held : (v : ℕ) → has v marks ≡ true → s .chain v c ≡ true
+
+-- an edit that the map accepts, made: the words of the edited map, and nothing beyond the room
+pub record Made (caps : Caps) (w w′ : List ℕ) (e : Edit) : Type 0 where
+  pub inside : Only (λ i. i < room (caps .marks) (caps .cells)) w w′
+  pub wf : (m : Map) → capsOf m ≡ caps → Wf w m → editAnswer m e .refusal ≡ 0 → Wf w′ (changed m e)
