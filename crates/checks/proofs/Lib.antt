@@ -1,2 +1,5 @@
 -- The laws that the calls cite.
 pub mod Rows
+pub mod Values
+pub mod Opens
+pub mod Passed

@@ -90,7 +90,7 @@ from-has h v l e =
 
 module _ (l : List ℕ) (a : Ascending l) where
   -- the next of the one at a place is the one at the next place of the list laid twice
-  after-at : (i : ℕ) → i < length l → after (getD l i 0) l ≡ getD (l ++ l) (suc i) 0
+  pub after-at : (i : ℕ) → i < length l → after (getD l i 0) l ≡ getD (l ++ l) (suc i) 0
   unfolding after first
   after-at i h = rw (keep-behind l a i h) (go (decLt (suc i) (length l)))
     where

@@ -27,13 +27,13 @@ pub record Shared (w : List ℕ) (caps : Caps) (rows : List (List (List ℕ))) (
 
 -- the siblings of a set: each of its half-facets leads to the next
 unfoldable pub mended : Caps → List ℕ → State → State
-mended caps set s = record
-    { at = s .at
-    ; chain = s .chain
-    ; sib = λ h. cond (has h (sharers (mapWith caps s) set)) (after h (sharers (mapWith caps s) set)) (s .sib h)
-    ; anc = s .anc
-    ; count = s .count
-    }
+mended caps set s = record {
+  at = s .at;
+  chain = s .chain;
+  sib = λ h. cond (has h (sharers (mapWith caps s) set)) (after h (sharers (mapWith caps s) set)) (s .sib h);
+  anc = s .anc;
+  count = s .count;
+}
 
 pub record MayMend (caps : Caps) (rows : List (List (List ℕ))) (set : List ℕ) (s : State) : Type 0 where
   pub ready : Ready caps s

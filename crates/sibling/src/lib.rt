@@ -1,1 +1,67 @@
-// The siblings.
+// The half-facets with one set of marks, and their siblings.
+//
+// What is here: `sharers` lists the half-facets with a set of marks, `put_sibling` writes one sibling, `mend` makes each of a set lead
+// to the next. All are total on any memory. What is proved: on the picture of a state whose cells make a sound map and whose chains
+// are right, the list is that of the definitions and the siblings are left as specs/Shared.antt says; on any memory nothing beyond
+// the room changes. What a caller should know: the set's first mark leads to its cells, so it must be a mark of the mesh; the table is
+// handed down, so that it is copied once a call; 128 words hold any answer.
+ghost use Prim.Native.Nat.{_/_, _%_, _<_};
+ghost use Rattle.picture.specs.Step.{Step};
+ghost use Rattle.picture.specs.Changes.{withSib};
+ghost use Rattle.sibling.specs.Shared.{Shared, MayMend, mended};
+use chain::gather;
+use facet::matching;
+use numbers::Cell;
+use numbers::half_of;
+use store::Caps;
+use store::put_cell;
+use words::put;
+use words::word;
+
+// The half-facets with this set of marks, ascending, written to the first places of out; how many there are.
+pub fn sharers(w: &[u32], caps: Caps, rows: &[[[u8; 5]; 6]; 5], set: &[u32], out: &mut [u32]) -> u32
+    ensures { λ r. ⌜ Shared (now (w .entry)) caps (now (rows .entry)) (now (set .entry)) (now (out .entry)) r (now (out .exit)) ⌝ }
+{
+    let mut cells = [0u32; 128];
+    let count = gather(w, caps, word(set, 0), &mut cells);
+    let mut n: u32 = 0;
+    let mut i: u32 = 0;
+    while i < count {
+        let c = word(&cells, i as usize);
+        let f = matching(w, caps, rows, c, set);
+        if f < 8 {
+            let half = half_of(Cell(c), f);
+            put(out, n as usize, half.0);
+            n += 1;
+        }
+        i += 1;
+    }
+    n
+}
+
+// The sibling of a half-facet, written.
+pub fn put_sibling(w: &mut [u32], caps: Caps, h: u32, x: u32)
+    ensures { λ _. ⌜ Step caps (now (w .entry)) (now (w .exit)) (λ s. (h / 8 < caps .cells) × (h % 8 < 4)) (λ s. withSib s h x) ⌝ }
+{
+    if 4 <= h % 8 {
+        return;
+    }
+    put_cell(w, caps, h / 8, 5 + h % 8, x);
+}
+
+// Each half-facet with this set of marks leads to the next, and the last to the first.
+pub fn mend(w: &mut [u32], caps: Caps, rows: &[[[u8; 5]; 6]; 5], set: &[u32])
+    ensures { λ _. ⌜ Step caps (now (w .entry)) (now (w .exit)) (MayMend caps (now (rows .entry)) (now (set .entry))) (mended caps (now (set .entry))) ⌝ }
+{
+    let mut halves = [0u32; 128];
+    let n = sharers(w, caps, rows, set, &mut halves);
+    let mut i: u32 = 0;
+    while i < n {
+        let next = i + 1;
+        let to = if next < n { next } else { 0 };
+        let half = word(&halves, i as usize);
+        let after = word(&halves, to as usize);
+        put_sibling(w, caps, half, after);
+        i = next;
+    }
+}

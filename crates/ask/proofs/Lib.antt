@@ -1,0 +1,3 @@
+-- The laws of the word-reading queries.
+pub mod Asks
+pub mod Words

@@ -1,0 +1,18 @@
+-- What a query promises: memory that is no mesh is refused with 14; on well-formed memory the answer is the definition's.
+use mathlib.Core.Path.{_≡_}
+use mathlib.Core.Bool.{false}
+use mathlib.Core.List.{List, []}
+use Prim.Native.Nat.{ℕ}
+use Rattle.store.specs.Slots.{isMesh}
+use Rattle.map.specs.Cells.{Map}
+use Rattle.map.specs.Answers.{Answer}
+use Rattle.picture.specs.Picture.{Wf}
+
+pub record Asked {A : Type 0} (says : A → Answer) (noMesh : A) (w : List ℕ) (answer : Map → Answer) (r : A) : Type 0 where
+  pub refused : isMesh w ≡ false → r ≡ noMesh
+  pub answers : (m : Map) → Wf w m → says r ≡ answer m
+
+-- the part of memory that a query hands back: empty where memory is no mesh
+pub record Handed (w : List ℕ) (part : Map → List ℕ) (r : List ℕ) : Type 0 where
+  pub refused : isMesh w ≡ false → r ≡ []
+  pub answers : (m : Map) → Wf w m → r ≡ part m

@@ -1,0 +1,79 @@
+-- What an accepting verdict tells.
+use mathlib.Core.Path.{_≡_, refl, sym, ap, _∙_}
+use mathlib.Core.Bool.{Bool, true, false, not, _&&_, _||_}
+use mathlib.Core.List.{List, [], _∷_, _++_}
+use Prim.Native.Nat.{ℕ, _<_, _≤_}
+use native.Mathlib.Omega.{arith}
+use borrow.Author.Tests.{leb-false, ltb-false, not-true, not-false, eqb-false}
+use lib.Dec.{leb, ltb, eqb}
+use Rattle.lists.specs.Lists.{all}
+use Rattle.lists.proofs.Bools.{and-left, and-right}
+use Rattle.lists.proofs.Counts.{neither}
+use Rattle.shapes.specs.Shapes.{shape, facetCount}
+use Rattle.store.specs.declared.Caps.{Caps}
+use Rattle.map.specs.Cells.{Map, live}
+use Rattle.map.specs.Answers.{Check, _when_, answer, cellChecks, halfChecks, starChecks, typeChecks}
+use Rattle.map.specs.Paper.{given, verdictSays}
+use Rattle.map.specs.declared.Verdict.{Verdict}
+use Rattle.map.specs.declared.Verdict.the-variants.{Accepted}
+use Rattle.picture.specs.State.{capsOf}
+use Rattle.picture.specs.Picture.{Wf}
+use Rattle.checks.specs.Checked.{Checked}
+use Rattle.checks.proofs.Values.{Numbered, all-pass}
+
+-- the rows are numbered
+pub cell-numbered : (m : Map) (c : ℕ) → Numbered (cellChecks m c)
+unfolding cellChecks _when_ all
+cell-numbered m c = refl
+
+pub half-numbered : (m : Map) (c f : ℕ) → Numbered (halfChecks m c f)
+unfolding halfChecks cellChecks _when_ all
+half-numbered m c f = refl
+
+pub star-numbered : (m : Map) (d v : ℕ) → Numbered (starChecks m d v)
+unfolding starChecks _when_ all
+star-numbered m d v = refl
+
+pub type-numbered : (t : ℕ) → Numbered (typeChecks t)
+unfolding typeChecks _when_ all
+type-numbered t = refl
+
+accepted : (w : List ℕ) (caps : Caps) (checks : Map → List Check) (r : Verdict) → Checked w caps checks r → r ≡ Accepted
+    → (m : Map) → capsOf m ≡ caps → Wf w m → Numbered (checks m) → all (λ (c : Check). not (c .fails)) (checks m) ≡ true
+unfolding verdictSays
+accepted w caps checks r k v m e wf n = all-pass (checks m) n (ap verdictSays (sym v) ∙ k .says m e wf)
+
+module _ (w : List ℕ) (caps : Caps) (r : Verdict) (v : r ≡ Accepted) (m : Map) (e : capsOf m ≡ caps) (wf : Wf w m) where
+  pub cell-passed : (c : ℕ) → Checked w caps (λ m. cellChecks m c) r → (c < m .cells) × (live m c ≡ true)
+  unfolding cellChecks _when_ all
+  cell-passed c k =
+      let p = accepted w caps (λ m. cellChecks m c) r k v m e wf (cell-numbered m c) in
+      ( leb-false (m .cells) c (not-true (leb (m .cells) c) (and-left (not (leb (m .cells) c)) (not (not (live m c)) && true) p))
+      , not-false (live m c) (not-true (not (live m c)) (and-left (not (not (live m c))) true (and-right (not (leb (m .cells) c)) (not (not (live m c)) && true) p))))
+
+  pub half-passed : (c f : ℕ) → Checked w caps (λ m. halfChecks m c f) r
+      → (c < m .cells) × (live m c ≡ true) × (f < facetCount (m .at c .code))
+  unfolding halfChecks cellChecks _when_ all
+  half-passed c f k =
+      let p = accepted w caps (λ m. halfChecks m c f) r k v m e wf (half-numbered m c f) in
+      let q = and-right (not (leb (m .cells) c)) (not (not (live m c)) && (not (leb (facetCount (m .at c .code)) f) && true)) p in
+      let l = and-right (not (not (live m c))) (not (leb (facetCount (m .at c .code)) f) && true) q in
+      ( leb-false (m .cells) c (not-true (leb (m .cells) c) (and-left (not (leb (m .cells) c)) (not (not (live m c)) && (not (leb (facetCount (m .at c .code)) f) && true)) p))
+      , not-false (live m c) (not-true (not (live m c)) (and-left (not (not (live m c))) (not (leb (facetCount (m .at c .code)) f) && true) q))
+      , leb-false (facetCount (m .at c .code)) f (not-true (leb (facetCount (m .at c .code)) f) (and-left (not (leb (facetCount (m .at c .code)) f)) true l)))
+
+  pub star-passed : (d u : ℕ) → Checked w caps (λ m. starChecks m d u) r → (1 ≤ d) × (d ≤ 3) × (u < m .marks)
+  unfolding starChecks _when_ all
+  star-passed d u k =
+      let p = accepted w caps (λ m. starChecks m d u) r k v m e wf (star-numbered m d u) in
+      let b = neither (ltb d 1) (ltb 3 d) (not-true (ltb d 1 || ltb 3 d) (and-left (not (ltb d 1 || ltb 3 d)) (not (leb (m .marks) u) && true) p)) in
+      let q = and-right (not (ltb d 1 || ltb 3 d)) (not (leb (m .marks) u) && true) p in
+      ( ltb-false d 1 (b .0)
+      , ltb-false 3 d (b .1)
+      , leb-false (m .marks) u (not-true (leb (m .marks) u) (and-left (not (leb (m .marks) u)) true q)))
+
+  pub type-passed : (t : ℕ) → Checked w caps (λ m. typeChecks t) r → shape t .dimension ≡ 0 → ⊥
+  unfolding typeChecks _when_ all
+  type-passed t k =
+      let p = accepted w caps (λ m. typeChecks t) r k v m e wf (type-numbered t) in
+      eqb-false (shape t .dimension) 0 (not-true (eqb (shape t .dimension) 0) (and-left (not (eqb (shape t .dimension) 0)) true p))

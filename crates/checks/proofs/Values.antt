@@ -1,0 +1,73 @@
+-- A verdict on a row of checks is the verdict whatever the values.
+use mathlib.Core.Path.{_≡_, refl, sym, ap, _∙_}
+use mathlib.Core.Bool.{Bool, true, false, cond, not, _&&_}
+use mathlib.Core.List.{List, [], _∷_}
+use Prim.Native.Nat.{ℕ, zero, suc, _≤_}
+use native.Mathlib.Omega.{arith}
+use borrow.Author.Tests.{eqb-false, not-true}
+use lib.Dec.{eqb}
+use Rattle.lists.specs.Lists.{all}
+use Rattle.lists.proofs.Bools.{clash, and-left, and-right}
+use Rattle.map.specs.declared.Refusal.{Refusal}
+use Rattle.map.specs.declared.Refusal.the-variants.{CapacityAbove, MemoryShort, CellOutside, CellLive, CellNotLive, TypeUnknown, CountWrong, MarkOutside, MarkTwice, CellSame, MarkFull, OutputShort, FacetOutside, NotMesh, BadFrame}
+use Rattle.map.specs.Answers.{Check, Answer, answer}
+use Rattle.map.specs.Paper.{numberOf, given, refused}
+
+-- no refusal has the number 0
+pub number-some : (r : Refusal) → 1 ≤ numberOf r
+number-some CapacityAbove = omega arith
+number-some MemoryShort = omega arith
+number-some CellOutside = omega arith
+number-some CellLive = omega arith
+number-some CellNotLive = omega arith
+number-some TypeUnknown = omega arith
+number-some CountWrong = omega arith
+number-some MarkOutside = omega arith
+number-some MarkTwice = omega arith
+number-some CellSame = omega arith
+number-some MarkFull = omega arith
+number-some OutputShort = omega arith
+number-some FacetOutside = omega arith
+number-some NotMesh = omega arith
+number-some BadFrame = omega arith
+
+-- no check of a row has it
+abbrev pub Numbered : List Check → Type 0
+Numbered checks = all (λ (c : Check). not (eqb (c .number) 0)) checks ≡ true
+
+pub refused-values : (checks : List Check) (r : Refusal) (values : List ℕ) → refused r ≡ answer checks [] → refused r ≡ answer checks values
+unfolding refused answer
+refused-values [] r values e = absurd (omega (arith, number-some r, ap (λ (a : Answer). a .refusal) e))
+refused-values (c ∷ cs) r values e = go (c .fails) e (refused-values cs r values)
+  where
+    go : (b : Bool) → refused r ≡ cond b (record { refusal = c .number; values = [] }) (answer cs [])
+      → (refused r ≡ answer cs [] → refused r ≡ answer cs values) → refused r ≡ cond b (record { refusal = c .number; values = [] }) (answer cs values)
+    go true e f = e
+    go false e f = f e
+
+pub given-values : (checks : List Check) (values : List ℕ) → Numbered checks → given [] ≡ answer checks [] → given values ≡ answer checks values
+unfolding given answer all
+given-values [] values n e = refl
+given-values (c ∷ cs) values n e =
+    go (c .fails) e (given-values cs values (and-right (not (eqb (c .number) 0)) (all (λ (c : Check). not (eqb (c .number) 0)) cs) n))
+  where
+    some : c .number ≡ 0 → ⊥
+    some = eqb-false (c .number) 0 (not-true (eqb (c .number) 0) (and-left (not (eqb (c .number) 0)) (all (λ (c : Check). not (eqb (c .number) 0)) cs) n))
+    go : (b : Bool) → given [] ≡ cond b (record { refusal = c .number; values = [] }) (answer cs []) → (given [] ≡ answer cs [] → given values ≡ answer cs values)
+      → given values ≡ cond b (record { refusal = c .number; values = [] }) (answer cs values)
+    go true e f = absurd (some (sym (ap (λ (a : Answer). a .refusal) e)))
+    go false e f = f e
+
+-- accepted: no check failed
+pub all-pass : (checks : List Check) → Numbered checks → given [] ≡ answer checks [] → all (λ (c : Check). not (c .fails)) checks ≡ true
+unfolding given answer all
+all-pass [] n e = refl
+all-pass (c ∷ cs) n e =
+    go (c .fails) e (all-pass cs (and-right (not (eqb (c .number) 0)) (all (λ (c : Check). not (eqb (c .number) 0)) cs) n))
+  where
+    some : c .number ≡ 0 → ⊥
+    some = eqb-false (c .number) 0 (not-true (eqb (c .number) 0) (and-left (not (eqb (c .number) 0)) (all (λ (c : Check). not (eqb (c .number) 0)) cs) n))
+    go : (b : Bool) → given [] ≡ cond b (record { refusal = c .number; values = [] }) (answer cs [])
+      → (given [] ≡ answer cs [] → all (λ (c : Check). not (c .fails)) cs ≡ true) → not b && all (λ (c : Check). not (c .fails)) cs ≡ true
+    go true e f = absurd (some (sym (ap (λ (a : Answer). a .refusal) e)))
+    go false e f = f e

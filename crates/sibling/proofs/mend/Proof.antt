@@ -1,0 +1,89 @@
+-- `sibling::mend` meets its contract.
+use mathlib.Core.Path.{refl}
+use mathlib.Core.Logic.{⊎-elim, inl, inr}
+use Prim.Native.Nat.{_-_, _≤_}
+use native.Mathlib.Omega.{arith}
+use Rattle.picture.specs.Step.{Step}
+use Rattle.sibling.specs.Shared.{MayMend}
+use Rattle.sibling.proofs.Mended.{mendedTo, mend-start, mend-more, mend-end}
+use borrow.Author.Needs.{needs}
+use Rattle.sibling.proofs.mend.Statement.{statement}
+use Rattle.sibling.proofs.mend.Tie as tie
+
+abbrev Inv-loop : tie.InvT-loop
+Inv-loop w₀ caps rows set halves n i₀ w i = (i ≤ n) × Step caps w₀ w (MayMend caps rows set) (mendedTo caps set i)
+
+abbrev μ-loop : tie.MeasureT-loop
+μ-loop w₀ caps rows set halves n i₀ w i = n - i
+
+slice-aggregate-sharers : tie.Need-slice-aggregate-sharers Inv-loop μ-loop
+slice-aggregate-sharers c = search needs
+
+sharers-requires : tie.Need-sharers-requires Inv-loop μ-loop
+sharers-requires c κs = search needs
+
+loop-holds : tie.Need-loop-holds Inv-loop μ-loop
+loop-holds c = (omega arith, mend-start _ _ _ _)
+
+add-next : tie.Need-add-next Inv-loop μ-loop
+add-next c = search needs
+
+slice-aggregate-word : tie.Need-slice-aggregate-word Inv-loop μ-loop
+slice-aggregate-word c = search needs
+
+cast-word : tie.Need-cast-word Inv-loop μ-loop
+cast-word c = search needs
+
+word-requires : tie.Need-word-requires Inv-loop μ-loop
+word-requires c κs = search needs
+
+slice-aggregate-word-2 : tie.Need-slice-aggregate-word-2 Inv-loop μ-loop
+slice-aggregate-word-2 c = search needs
+
+word-requires-2 : tie.Need-word-requires-2 Inv-loop μ-loop
+word-requires-2 c κs = search needs
+
+put-sibling-requires : tie.Need-put-sibling-requires Inv-loop μ-loop
+put-sibling-requires c κs = search needs
+
+loop-less : tie.Need-loop-less Inv-loop μ-loop
+loop-less c = search needs
+
+loop-again : tie.Need-loop-again Inv-loop μ-loop
+loop-again c =
+    let branch = c .before .before .before .before .before .before .before .before .before in
+    let start = branch .before .before in (
+      omega arith,
+      mend-more _ _ _ _ _ _ _ (start .loop .i) (branch .if1 .to) _ _ _ _ (start .before .before .sharers .ensures) refl (start .loop .inv .1)
+          (branch .before .loop-test .taken) (⊎-elim (λ a. inl (a .0 .taken, a .1)) (λ a. inr (a .0 .left, a .1)) (branch .if1 .came))
+          (c .before .before .before .before .before .before .before .word .ensures) (c .before .before .before .before .word2 .ensures) (c .before .before .put-sibling .ensures),
+    )
+
+same-length : tie.Need-same-length Inv-loop μ-loop
+same-length c = search needs
+
+returns : tie.Need-returns Inv-loop μ-loop
+returns c =
+    mend-end _ _ _ _ _ (c .before .loop .i) _ _ _ (c .before .before .before .sharers .ensures) (c .before .loop .inv .1)
+    (c .loop-test .left)
+
+pub mend-spec : {M : Type 1} → statement M
+mend-spec =
+    tie.close
+    (tie.spec
+    Inv-loop
+    μ-loop
+    slice-aggregate-sharers
+    sharers-requires
+    loop-holds
+    add-next
+    slice-aggregate-word
+    cast-word
+    word-requires
+    slice-aggregate-word-2
+    word-requires-2
+    put-sibling-requires
+    loop-less
+    loop-again
+    same-length
+    returns)

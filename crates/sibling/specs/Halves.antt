@@ -1,0 +1,20 @@
+-- The half-facets with one set of marks, cell by cell along a list of cells.
+use mathlib.Core.List.{List, [], map}
+use Prim.Native.Nat.{ℕ, _%_}
+use lib.Dec.{ltb}
+use lib.ListN.{getD, length}
+use Rattle.lists.specs.Lists.{sameSet, select, first, keep}
+use Rattle.numbers.specs.Half.{halfOf}
+use Rattle.map.specs.Cells.{Map, facetsAt}
+
+-- the first facet of the cell with this set of marks; 8 where there is none
+unfoldable pub matchAt : Map → List ℕ → ℕ → ℕ
+matchAt m set c = first 8 (select (λ f. sameSet set (getD (facetsAt m c) f [])) (length (facetsAt m c)))
+
+-- for each cell in order its half-facet by the match; none where there is no match
+unfoldable pub halvesOf : (ℕ → ℕ) → List ℕ → List ℕ
+halvesOf match cells = map (λ c. halfOf c (match c)) (keep (λ c. ltb (match c) 8) cells)
+
+-- and as the code makes them on any memory: cells run below 65,536 and facets below 8, the rest is cut off
+unfoldable pub halvesCut : (ℕ → ℕ) → List ℕ → List ℕ
+halvesCut match cells = map (λ c. halfOf (c % 65536) (match c % 8)) (keep (λ c. ltb (match c) 8) cells)
