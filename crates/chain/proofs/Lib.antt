@@ -2,4 +2,8 @@
 pub mod Nexts
 pub mod Walks
 pub mod Places
+pub mod Links
+pub mod Shows
+pub mod Frames
+pub mod Relinks
 pub mod Readied

@@ -1,8 +1,8 @@
 -- The first number from a place on that passes, and the last below one.
-use mathlib.Core.Path.{_≡_, refl, sym, ap, _∙_}
+use mathlib.Core.Path.{_≡_, refl, ap, _∙_}
 use mathlib.Core.Bool.{Bool, true, false, cond}
 use mathlib.Core.List.{List, [], _∷_, _++_}
-use mathlib.Core.Logic.{⊎-elim, _⊎_, inl, inr}
+use mathlib.Core.Logic.{⊎-elim}
 use Prim.Native.Nat.{ℕ, zero, suc, _+_, _<_, _≤_}
 use native.Mathlib.Nat.{not-suc-le-zero, eq-or-lt-of-le}
 use native.Mathlib.Decide.{decLt, le-ind}
@@ -62,18 +62,18 @@ module _ (p : ℕ → Bool) (hi lo : ℕ) where
       (λ k h. first-least 0 (keep (leb lo) (select p hi)) (keep-ascends (leb lo) (select p hi) (select-ascends p hi)) k h)
     where
       go : (l : List ℕ) → next l ≡ suc c → ((k : ℕ) → lo ≤ k → k < hi → p k ≡ true → has k l ≡ true)
-        → ((k : ℕ) → has k l ≡ true → (leb lo k ≡ true) × (has k (select p hi) ≡ true)) → ((k : ℕ) → has k l ≡ true → first 0 l ≤ k) → First p lo hi c
+          → ((k : ℕ) → has k l ≡ true → (leb lo k ≡ true) × (has k (select p hi) ≡ true)) → ((k : ℕ) → has k l ≡ true → first 0 l ≤ k) → First p lo hi c
       go [] e f g h = absurd (omega (arith, e))
       go (x ∷ xs) e f g h =
           let xc : x ≡ c = omega (arith, e) in
           let i : has c (x ∷ xs) ≡ true = or-left (eqb x c) (has c xs) (eq-eqb x c xc) in
           let s = select-out p hi c (g c i .1) in
-          record
-            { low = leb-true lo c (g c i .0)
-            ; high = s .0
-            ; here = s .1
-            ; gap = λ k a b. not-true-false (p k) (λ t. omega (arith, h k (f k a (omega (arith, s .0)) t)))
-            }
+          record {
+            low = leb-true lo c (g c i .0);
+            high = s .0;
+            here = s .1;
+            gap = λ k a b. not-true-false (p k) (λ t. omega (arith, h k (f k a (omega (arith, s .0)) t)));
+          }
 
   -- and what it is
   pub none-from : None p lo hi → firstFrom p hi lo ≡ 0
@@ -130,8 +130,8 @@ module _ (p : ℕ → Bool) where
   select-gap lo hi h f =
       le-ind (λ (m : ℕ). None p lo m → select p m ≡ select p lo) (λ g. refl)
       (λ m l ih g.
-        let e : p m ≡ false = g m l (omega arith) in
-        rw e (ih (λ k a b. g k a (omega arith))))
+      let e : p m ≡ false = g m l (omega arith) in
+      rw e (ih (λ k a b. g k a (omega arith))))
       hi h f
 
   pub select-first : (lo hi c : ℕ) → First p lo hi c → select p (suc c) ≡ select p lo ++ (c ∷ [])
@@ -144,7 +144,7 @@ module _ (p : ℕ → Bool) where
       le-ind (λ (m : ℕ). length (select p lo) ≤ length (select p m)) (omega arith) (λ m l ih. step m (p m) ih) hi h
     where
       step : (m : ℕ) (b : Bool) → length (select p lo) ≤ length (select p m)
-        → length (select p lo) ≤ length (cond b (select p m ++ (m ∷ [])) (select p m))
+          → length (select p lo) ≤ length (cond b (select p m ++ (m ∷ [])) (select p m))
       step m true ih = rw length-append (omega arith)
       step m false ih = ih
 
@@ -154,8 +154,8 @@ module _ (p : ℕ → Bool) where
   from-full lo hi n a b =
       none-from p hi lo
       (λ k l h. not-true-false (p k) (λ t.
-        let one : length (select p (suc k)) ≡ length (select p k) + 1 = rw (t, length-append) refl in
-        omega (arith, one, select-grows lo k l, select-grows (suc k) hi h)))
+      let one : length (select p (suc k)) ≡ length (select p k) + 1 = rw (t, length-append) refl in
+      omega (arith, one, select-grows lo k l, select-grows (suc k) hi h)))
 
   -- the last below: it passes, and behind it there is a gap
   pub last-low : (n : ℕ) → lastBelow p n ≤ n
@@ -190,6 +190,6 @@ module _ (p : ℕ → Bool) where
   last-is lo n h f =
       le-ind (λ (m : ℕ). None p lo m → lastBelow p m ≡ lastBelow p lo) (λ g. refl)
       (λ m l ih g.
-        let e : p m ≡ false = g m l (omega arith) in
-        rw e (ih (λ k a b. g k a (omega arith))))
+      let e : p m ≡ false = g m l (omega arith) in
+      rw e (ih (λ k a b. g k a (omega arith))))
       n h f

@@ -1,18 +1,16 @@
 -- The words of a chain in a picture: the head and the count of a mark, the corners of a cell and the link at each.
-use mathlib.Core.Path.{_≡_, refl, sym, ap, _∙_}
-use mathlib.Core.Bool.{Bool, true, false, cond, _&&_}
-use mathlib.Core.List.{List, [], _∷_, _++_}
+use mathlib.Core.Path.{_≡_, refl, sym, _∙_}
+use mathlib.Core.Bool.{Bool, true, false, cond}
+use mathlib.Core.List.{List}
 use Prim.Native.Nat.{ℕ, zero, suc, _+_, _-_, _<_, _≤_}
 use native.Mathlib.Decide.{ℕ-discrete}
-use native.Mathlib.Nat.{not-suc-le-zero}
 use native.Mathlib.Omega.{arith}
-use borrow.Author.Tests.{eq-eqb, ne-eqb, eqb-true, eqb-false, lt-ltb}
-use lib.Dec.{eqb, ltb}
+use borrow.Author.Tests.{eq-eqb, ne-eqb, lt-ltb}
+use lib.Dec.{eqb}
 use lib.ListN.{getD, length}
-use Rattle.lists.specs.Lists.{has, repeats}
 use Rattle.lists.proofs.Members.{has-at, once}
 use Rattle.store.specs.declared.Caps.{Caps}
-use Rattle.store.specs.Layout.{markAt, cellAt, Slot, Mark, Cell, address}
+use Rattle.store.specs.Layout.{markAt, cellAt, Mark, Cell, address}
 use Rattle.store.specs.Slots.{setMark, setCell}
 use Rattle.picture.specs.State.{State}
 use Rattle.picture.specs.Picture.{Pic, chainOf, link, corner, linkWord, markWords, cellWords, wordOf}
@@ -30,25 +28,30 @@ module _ (w : List ℕ) (caps : Caps) (c v : ℕ) where
   corner-1 f e = simp (ne-eqb _ _ f, eq-eqb _ _ e)
 
   pub corner-2 : (getD w (cellAt (caps .marks) c + 1) 0 ≡ v → ⊥) → (getD w (cellAt (caps .marks) c + 2) 0 ≡ v → ⊥)
-    → getD w (cellAt (caps .marks) c + 3) 0 ≡ v → cornerIn w caps c v ≡ 2
+      → getD w (cellAt (caps .marks) c + 3) 0 ≡ v → cornerIn w caps c v ≡ 2
   unfolding cornerIn
   corner-2 f g e = simp (ne-eqb _ _ f, ne-eqb _ _ g, eq-eqb _ _ e)
 
   pub corner-3 : (getD w (cellAt (caps .marks) c + 1) 0 ≡ v → ⊥) → (getD w (cellAt (caps .marks) c + 2) 0 ≡ v → ⊥)
-    → (getD w (cellAt (caps .marks) c + 3) 0 ≡ v → ⊥) → cornerIn w caps c v ≡ 3
+      → (getD w (cellAt (caps .marks) c + 3) 0 ≡ v → ⊥) → cornerIn w caps c v ≡ 3
   unfolding cornerIn
   corner-3 f g h = simp (ne-eqb _ _ f, ne-eqb _ _ g, ne-eqb _ _ h)
 
-  pub corner-small : cornerIn w caps c v ≤ 3
+  pub corner-small : (r : ℕ) → r ≡ cornerIn w caps c v → r ≤ 3
   unfolding cornerIn
-  corner-small =
-      go (eqb (getD w (cellAt (caps .marks) c + 1) 0) v) (eqb (getD w (cellAt (caps .marks) c + 2) 0) v) (eqb (getD w (cellAt (caps .marks) c + 3) 0) v)
+  corner-small r e =
+      rw e (go (eqb (getD w (cellAt (caps .marks) c + 1) 0) v) (eqb (getD w (cellAt (caps .marks) c + 2) 0) v) (eqb (getD w (cellAt (caps .marks) c + 3) 0) v))
     where
       go : (x y z : Bool) → cond x 0 (cond y 1 (cond z 2 3)) ≤ 3
       go true y z = omega arith
       go false true z = omega arith
       go false false true = omega arith
       go false false false = omega arith
+
+-- the link that is read
+pub link-read : (w : List ℕ) (caps : Caps) (c v k x : ℕ) → k ≡ cornerIn w caps c v → x ≡ getD w (cellAt (caps .marks) c + (9 + k)) 0 → x ≡ linkIn w caps c v
+unfolding linkIn
+link-read w caps c v k x e f = rw (← e) f
 
 -- the word that leads on, written: a head, or the link at a corner
 module _ (w : List ℕ) (caps : Caps) (before v x : ℕ) where
@@ -75,32 +78,42 @@ pub link-here : (caps : Caps) (s : State) (v c j : ℕ) → j < length (s .at c 
 unfolding linkWord
 link-here caps s v c j h e t = rw (e, lt-ltb j (length (s .at c .marks)) h, t)
 
+-- a mark stands at one corner of a cell
+pub corner-once : (caps : Caps) (s : State) → Linked caps s → (v d j k : ℕ) → j < length (s .at d .marks) → k < length (s .at d .marks)
+    → corner s d j ≡ v → corner s d k ≡ v → j ≡ k
+unfolding corner
+corner-once caps s l v d j k a b p q = once (s .at d .marks) (l .distinct d) j k a b (p ∙ sym q)
+
+-- the words of a mark
+module _ (w : List ℕ) (caps : Caps) (s : State) (p : Pic w caps s) (v : ℕ) (h : v < caps .marks) where
+  pub head-word : getD w (markAt v + 0) 0 ≡ link caps s v 0
+  unfolding address wordOf markWords
+  head-word = p .words (Mark v 0) (h, omega arith)
+
+  pub count-word : getD w (markAt v + 1) 0 ≡ length (chainOf caps s v)
+  unfolding address wordOf markWords
+  count-word = p .words (Mark v 1) (h, omega arith)
+
 module _ (w : List ℕ) (caps : Caps) (s : State) (p : Pic w caps s) (l : Linked caps s) (v : ℕ) where
-  module _ (h : v < caps .marks) where
-    pub head-word : getD w (markAt v + 0) 0 ≡ link caps s v 0
-    unfolding address wordOf markWords
-    head-word = p .words (Mark v 0) (h, omega arith)
-
-    pub count-word : getD w (markAt v + 1) 0 ≡ length (chainOf caps s v)
-    unfolding address wordOf markWords
-    count-word = p .words (Mark v 1) (h, omega arith)
-
   -- the corner of a mark that the cell has is the one where it stands
   pub corner-is : (c j : ℕ) → c < caps .cells → j < length (s .at c .marks) → corner s c j ≡ v → cornerIn w caps c v ≡ j
-  unfolding address wordOf cellWords corner
+  unfolding address wordOf cellWords
   corner-is c j h hj e = go (ℕ-discrete (corner s c 0) v) (ℕ-discrete (corner s c 1) v) (ℕ-discrete (corner s c 2) v)
     where
       word : (i : ℕ) → Type 0
       word i = getD w (cellAt (caps .marks) c + suc i) 0 ≡ corner s c i
+
       w0 : word 0
       w0 = p .words (Cell c 1) (h, omega arith)
+
       w1 : word 1
       w1 = p .words (Cell c 2) (h, omega arith)
+
       w2 : word 2
       w2 = p .words (Cell c 3) (h, omega arith)
 
       one : (i : ℕ) → i ≤ j → corner s c i ≡ v → i ≡ j
-      one i a q = once (s .at c .marks) (l .distinct c) i j (omega arith) hj (q ∙ sym e)
+      one i a q = corner-once caps s l v c i j (omega arith) hj q e
 
       past : (i : ℕ) → (corner s c i ≡ v → ⊥) → j ≡ i → ⊥
       past i f z = f (rw (← z) e)

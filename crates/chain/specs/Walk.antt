@@ -38,4 +38,4 @@ lastBelow p (suc n) = cond (p n) (suc n) (lastBelow p n)
 -- what `find` answers: the last cell of the chain before c, and the link to the first one from c on
 pub record Found (w : List ℕ) (caps : Caps) (v c : ℕ) (r : Spot) : Type 0 where
   pub spot : (s : State) → Pic w caps s → Linked caps s → v < caps .marks → c ≤ caps .cells
-    → (r .before ≡ lastBelow (s .chain v) c) × (r .after ≡ link caps s v c)
+      → (r .before ≡ lastBelow (s .chain v) c) × (r .after ≡ link caps s v c)

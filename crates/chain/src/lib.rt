@@ -1,14 +1,21 @@
-// The chain of a mark: the cells that stand in it, ascending, each linked to the next through the corner that is the mark.
+// The chain of a mark: the cells that stand in it, ascending, each linked to the next at its corner that is the mark.
+//
+// What is here: `gather` lists a chain, `find` gives the spot of a cell in one, `splice` puts a cell in, `unsplice` takes one out;
+// `corner_of` and `link_after` read the words on the way. All are total: any memory, any numbers. What is proved: on the picture of a
+// state whose chains are linked each answer is the definition's (specs/Chain.antt, specs/Walk.antt), and a writing function leaves the
+// picture of the state with that one cell in the chain, or out of it (`withLink`). What a caller should know: at most 128 links are
+// followed; on a state that does not allow the step (`MaySplice`, `MayUnsplice`) it is only sure that no word outside the room changes.
 ghost use mathlib.Core.Path.{_≡_};
 ghost use mathlib.Core.Bool.{true, false};
-ghost use Rattle.chain.specs.Chain.{Gathered};
-ghost use Rattle.chain.specs.Walk.{cornerIn, linkIn};
-
+ghost use Rattle.picture.specs.Changes.{withLink};
+ghost use Rattle.picture.specs.Step.{Step};
+ghost use Rattle.chain.specs.Chain.{Gathered, MaySplice, MayUnsplice};
+ghost use Rattle.chain.specs.Walk.{cornerIn, linkIn, setLink, Found};
+use store::Caps;
 use store::cell_word;
 use store::mark_word;
 use store::put_cell;
 use store::put_mark;
-use store::Caps;
 use words::put;
 
 // Where a cell stands in a chain, or would: the cell before it and the first one from it on, each as number + 1, 0 for none.
@@ -59,3 +66,73 @@ pub fn gather(w: &[u32], caps: Caps, v: u32, out: &mut [u32]) -> u32
     n
 }
 
+// The spot of cell c in the chain of the mark v, whether or not c stands in it.
+pub fn find(w: &[u32], caps: Caps, v: u32, c: u32) -> Spot
+    ensures { λ r. ⌜ Found (now (w .entry)) caps v c r ⌝ }
+{
+    let mut before: u32 = 0;
+    let mut after = mark_word(w, v, 0);
+    let mut n: u32 = 0;
+    while n < 128 {
+        if after == 0 {
+            return Spot { before, after };
+        }
+        if c < after {
+            return Spot { before, after };
+        }
+        before = after;
+        after = link_after(w, caps, before - 1, v);
+        n += 1;
+    }
+    Spot { before, after }
+}
+
+// The word that leads on behind the cell before - 1 in the chain of v, or into the chain where before is 0, written.
+fn put_link(w: &mut [u32], caps: Caps, before: u32, v: u32, x: u32)
+    ensures { λ _. ⌜ now (w .exit) ≡ setLink (now (w .entry)) caps before v x ⌝ }
+{
+    if before == 0 {
+        put_mark(w, caps, v, 0, x);
+        return;
+    }
+    let corner = corner_of(w, caps, before - 1, v);
+    put_cell(w, caps, before - 1, 9 + corner, x);
+}
+
+// The cell c, whose corner k is the mark v, put into the chain of v.
+pub fn splice(w: &mut [u32], caps: Caps, v: u32, k: u32, c: u32)
+    ensures { λ _. ⌜ Step caps (now (w .entry)) (now (w .exit)) (MaySplice caps v k c) (λ s. withLink s v c true) ⌝ }
+{
+    let count = mark_word(w, v, 1);
+    if 128 <= count {
+        return;
+    }
+    if 4 <= k {
+        return;
+    }
+    if caps.cells <= c {
+        return;
+    }
+    let spot = find(w, caps, v, c);
+    put_link(w, caps, spot.before, v, c + 1);
+    put_cell(w, caps, c, 9 + k, spot.after);
+    put_mark(w, caps, v, 1, count + 1);
+}
+
+// The cell c, whose corner k is the mark v, taken out of the chain of v.
+pub fn unsplice(w: &mut [u32], caps: Caps, v: u32, k: u32, c: u32)
+    ensures { λ _. ⌜ Step caps (now (w .entry)) (now (w .exit)) (MayUnsplice caps v k c) (λ s. withLink s v c false) ⌝ }
+{
+    let count = mark_word(w, v, 1);
+    if count == 0 {
+        return;
+    }
+    if 4 <= k {
+        return;
+    }
+    let spot = find(w, caps, v, c);
+    let after = link_after(w, caps, c, v);
+    put_link(w, caps, spot.before, v, after);
+    put_cell(w, caps, c, 9 + k, 0);
+    put_mark(w, caps, v, 1, count - 1);
+}

@@ -1,36 +1,28 @@
+-- `chain::corner_of` meets its contract: each way out by the words that were tested on it.
 use mathlib.Core.Path.{sym, _∙_}
 use Rattle.chain.proofs.Places.{corner-0, corner-1, corner-2, corner-3}
 use borrow.Author.Needs.{needs}
 use Rattle.chain.proofs.corner_of.Statement.{statement}
 use Rattle.chain.proofs.corner_of.Tie as tie
-use Rattle.chain.proofs.corner_of.Reads as reads
-use Rattle.chain.proofs.corner_of.Lts as lts
-use Rattle.store.proofs.cell_word.Reads as cell-word-reads
 
--- src/lib.rt:26:8
 cell-word-requires : tie.Need-cell-word-requires
 cell-word-requires c κs = search needs
 
--- src/lib.rt:27:9
 returns : tie.Need-returns
 returns c = sym (corner-0 _ _ _ _ (sym (c .before .cell-word .ensures) ∙ c .if1 .taken))
 
--- src/lib.rt:29:8
 cell-word-requires-2 : tie.Need-cell-word-requires-2
 cell-word-requires-2 c κs = search needs
 
--- src/lib.rt:30:9
 returns-2 : tie.Need-returns-2
 returns-2 c =
     sym
     (corner-1 _ _ _ _ (λ e. c .before .before .if1 .left (c .before .before .before .cell-word .ensures ∙ e))
     (sym (c .before .cell-word2 .ensures) ∙ c .if2 .taken))
 
--- src/lib.rt:32:8
 cell-word-requires-3 : tie.Need-cell-word-requires-3
 cell-word-requires-3 c κs = search needs
 
--- src/lib.rt:33:9
 returns-3 : tie.Need-returns-3
 returns-3 c =
     sym
@@ -38,7 +30,6 @@ returns-3 c =
     (λ e. c .before .before .if2 .left (c .before .before .before .cell-word2 .ensures ∙ e))
     (sym (c .before .cell-word3 .ensures) ∙ c .if3 .taken))
 
--- src/lib.rt:23:1
 returns-4 : tie.Need-returns-4
 returns-4 c =
     sym
