@@ -4,7 +4,6 @@ use mathlib.Core.Bool.{Bool, true, false, cond}
 use mathlib.Core.List.{List, [], _∷_}
 use Prim.Native.Nat.{ℕ, _+_, _<_}
 use lib.ListN.{getD}
-use Rattle.lists.specs.Lists.{all}
 use Rattle.lists.proofs.Bools.{clash}
 use Rattle.store.specs.declared.Caps.{Caps}
 use Rattle.store.specs.declared.Opened.the-variants.{Mesh, Nothing}
@@ -12,7 +11,7 @@ use Rattle.store.specs.Layout.{cellAt}
 use Rattle.store.specs.Slots.{isMesh}
 use Rattle.store.specs.Open.{opened}
 use Rattle.map.specs.Cells.{Map}
-use Rattle.map.specs.Answers.{Check, Answer, answer, _when_, cellChecks, halfChecks, starChecks, typeChecks}
+use Rattle.map.specs.Answers.{Check, Answer, answer}
 use Rattle.map.specs.Paper.{given, refused, verdictSays}
 use Rattle.map.specs.declared.Refusal.{Refusal}
 use Rattle.map.specs.declared.Verdict.{Verdict}
@@ -52,20 +51,3 @@ module _ {A : Type 0} (says : A → Answer) (noMesh : A) (w : List ℕ) (caps : 
   asked-given r verdict k v n q =
       asked-mesh says noMesh w (λ m. answer (checks m) (values m)) r caps opens
       (λ m e wf. q m e wf ∙ given-values (checks m) (values m) (n m) (ap verdictSays (sym v) ∙ k .says m e wf))
-
--- the rows are numbered
-pub cell-numbered : (m : Map) (c : ℕ) → Numbered (cellChecks m c)
-unfolding cellChecks _when_ all
-cell-numbered m c = refl
-
-pub half-numbered : (m : Map) (c f : ℕ) → Numbered (halfChecks m c f)
-unfolding halfChecks cellChecks _when_ all
-half-numbered m c f = refl
-
-pub star-numbered : (m : Map) (d v : ℕ) → Numbered (starChecks m d v)
-unfolding starChecks _when_ all
-star-numbered m d v = refl
-
-pub type-numbered : (t : ℕ) → Numbered (typeChecks t)
-unfolding typeChecks _when_ all
-type-numbered t = refl

@@ -1,3 +1,5 @@
 -- The laws of the word-reading queries.
 pub mod Asks
 pub mod Words
+pub mod Calls
+pub mod Marks

@@ -1,40 +1,76 @@
--- The queries, each from its checks and the word that it reads.
-use mathlib.Core.Path.{_≡_, refl, sym, ap, _∙_}
+-- What the words of well-formed memory are, where the queries read them.
+use mathlib.Core.Path.{_≡_, refl, sym, ap, _∙_, subst}
 use mathlib.Core.Bool.{Bool, true, false, cond}
 use mathlib.Core.List.{List, [], _∷_}
-use Prim.Native.Nat.{ℕ, suc, _+_, _*_, _/_, _%_, _<_, _≤_}
+use Prim.Native.Nat.{ℕ, zero, suc, _+_, _*_, _/_, _%_, _<_, _≤_}
+use native.Mathlib.Decide.{decLt}
 use native.Mathlib.Omega.{arith}
-use lib.ListN.{getD}
+use lib.ListN.{getD, length}
+use Rattle.numbers.specs.Half.{halfOf}
+use Rattle.numbers.proofs.Inverse.{half-uncut}
+use Rattle.shapes.specs.Shapes.{Shape, noShape, shapes, shape, facetCount}
+use Rattle.shapes.proofs.Read.{no-code}
 use Rattle.store.specs.declared.Caps.{Caps}
-use Rattle.store.specs.declared.Opened.the-variants.{Mesh, Nothing}
-use Rattle.store.specs.Layout.{cellAt}
-use Rattle.store.specs.Open.{opened}
-use Rattle.map.specs.Cells.{Map}
-use Rattle.map.specs.Answers.{typeAnswer, cellChecks}
-use Rattle.map.specs.Paper.{given, refused, valueSays}
-use Rattle.map.specs.declared.Refusal.{Refusal}
-use Rattle.map.specs.declared.Value.the-variants as Value
-use Rattle.map.specs.declared.Verdict.{Verdict}
-use Rattle.map.specs.declared.Verdict.the-variants.{Accepted, Refused}
-use Rattle.picture.specs.State.{capsOf}
-use Rattle.picture.specs.Picture.{Wf}
-use Rattle.checks.specs.Checked.{Checked}
-use Rattle.checks.proofs.Rows.{cells-of, code-of}
-use Rattle.ask.specs.Asked.{Asked}
-use Rattle.ask.specs.Refusals.{noValue}
-use Rattle.ask.proofs.Asks.{asked-refused, asked-given, cell-numbered}
+use Rattle.store.specs.Layout.{markAt, cellAt, Head, Mark, Cell, address}
+use Rattle.map.specs.Cells.{Map, facetsAt, cellsOf}
+use Rattle.map.specs.Siblings.{isHalf, Half, sibling}
+use Rattle.map.specs.Stars.{anchors}
+use Rattle.laws.proofs.Anchors.{half-facet}
+use Rattle.laws.proofs.Halves.{half-live}
+use Rattle.picture.specs.State.{next, capsOf, stateOf}
+use Rattle.picture.specs.Picture.{wordOf, Wf}
+use Rattle.picture.proofs.Writers.{anchor-word, count-word}
+use Rattle.sibling.proofs.OnPicture.{facets-count, facets-four}
+use Rattle.sibling.proofs.OneWord.{sibling-slot}
+use Rattle.checks.proofs.Rows.{marks-of, cells-of}
 
-module _ (w : List ℕ) (caps : Caps) (opens : Mesh caps ≡ opened w) (c : ℕ) (verdict : Verdict) (checked : Checked w caps (λ m. cellChecks m c) verdict) where
-  pub type-refused : (why : Refusal) → verdict ≡ Refused why → Asked valueSays noValue w (λ m. typeAnswer m c) (Value.Refused why)
-  unfolding typeAnswer valueSays
-  type-refused why v =
-      asked-refused valueSays noValue w caps (λ m. cellChecks m c) (λ m. m .at c .code ∷ []) opens (Value.Refused why) why verdict checked v refl
+-- a type of the table has a code from 1 to 4
+type-range : (t : ℕ) → (shape t .dimension ≡ 0 → ⊥) → (1 ≤ t) × (t ≤ 4)
+unfolding shape shapes noShape
+type-range t some = go (decLt 0 t) (decLt t 5)
+  where
+    zero-of : (0 < t → ⊥) → t ≡ 0
+    zero-of f = omega arith
+    go : Dec (0 < t) → Dec (t < 5) → (1 ≤ t) × (t ≤ 4)
+    go (yes a) (yes b) = (a, omega arith)
+    go (yes a) (no b) = absurd (some (ap (λ (s : Shape). s .dimension) (no-code t (omega arith))))
+    go (no a) d = absurd (some (ap (λ (n : ℕ). shape n .dimension) (zero-of a)))
 
-  pub type-given : verdict ≡ Accepted → (t : ℕ) → t ≡ getD w (cellAt (caps .marks) c + 0) 0 → Asked valueSays noValue w (λ m. typeAnswer m c) (Value.Is t)
-  unfolding typeAnswer valueSays
-  type-given v t word =
-      asked-given valueSays noValue w caps (λ m. cellChecks m c) (λ m. m .at c .code ∷ []) opens (Value.Is t) verdict checked v (λ m. cell-numbered m c)
-      (λ m e wf. ap (λ (n : ℕ). given (n ∷ [])) (word ∙ code-of caps m e w wf c (below m e wf)))
-    where
-      below : (m : Map) → capsOf m ≡ caps → Wf w m → c < caps .cells
-      below m e wf = ?
+module _ (w : List ℕ) (caps : Caps) (m : Map) (e : capsOf m ≡ caps) (wf : Wf w m) where
+  module _ (c f : ℕ) (hc : c < m .cells) (hf : f < facetCount (m .at c .code)) where
+    facet-below : f < length (facetsAt m c)
+    unfolding facetCount
+    facet-below = omega (arith, facets-count m c)
+
+    facet-four : f < 4
+    unfolding facetCount
+    facet-four = omega (arith, facets-four (m .at c .code))
+
+    -- the number is that of a live half-facet
+    pub half-is : Half m (halfOf c f)
+    unfolding halfOf
+    half-is = half-live m (wf .sound) (8 * c + f) (half-facet m c f facet-below .1)
+
+    -- nothing of it is cut off
+    pub uncut-is : halfOf (c % 65536) (f % 8) ≡ halfOf c f
+    unfolding capsOf
+    uncut-is = half-uncut c f (omega (arith, wf .picture .cells)) (omega (arith, facet-four))
+
+    -- the word of a facet is its sibling
+    pub sibling-is : getD w (cellAt (caps .marks) c + (5 + f)) 0 ≡ sibling m (halfOf c f)
+    unfolding capsOf stateOf address halfOf
+    sibling-is =
+        rw (← marks-of caps m e)
+        (wf .picture .words (Cell c (5 + f)) (hc, omega (arith, facet-four))
+        ∙ (sibling-slot (capsOf m) (stateOf m) c f facet-four ∙ rw (half-facet m c f facet-below .1)))
+
+  -- the word of a mark is its first anchor
+  pub anchor-is : (d v : ℕ) → 1 ≤ d → d ≤ 3 → v < m .marks → getD w (markAt v + (1 + d)) 0 ≡ next (anchors m d v)
+  unfolding capsOf stateOf address
+  anchor-is d v low high hv =
+      wf .picture .words (Mark v (1 + d)) (hv, omega arith) ∙ anchor-word (capsOf m) (stateOf m) d v 0 v d low high
+
+  -- the word of a type is its count
+  pub count-is : (t : ℕ) → (shape t .dimension ≡ 0 → ⊥) → getD w (4 + t) 0 ≡ length (cellsOf m t)
+  unfolding address stateOf
+  count-is t some = wf .picture .words (Head (4 + t)) (omega (arith, type-range t some)) ∙ count-word (capsOf m) (stateOf m) t 0 (type-range t some .0) (type-range t some .1)

@@ -48,7 +48,7 @@ cell-only w caps c k x = go (decLt c (caps .cells)) (decLt k 16)
 
 module _ (caps : Caps) (s : State) (d v x : ℕ) where
   -- the word of a first anchor
-  anchor-word : (u e : ℕ) → 1 ≤ e → e ≤ 3 → wordOf caps s (Mark u (1 + e)) ≡ s .anc e u
+  pub anchor-word : (u e : ℕ) → 1 ≤ e → e ≤ 3 → wordOf caps s (Mark u (1 + e)) ≡ s .anc e u
   unfolding wordOf markWords
   anchor-word u zero a b = absurd (omega arith)
   anchor-word u (suc zero) a b = refl
@@ -125,7 +125,7 @@ module _ (caps : Caps) (s : State) (t x : ℕ) where
       at (suc (suc (suc (suc (suc (suc (suc (suc zero)))))))) f = kept 4 f
       at (suc (suc (suc (suc (suc (suc (suc (suc (suc k))))))))) f = refl
 
-  count-word : 1 ≤ t → t ≤ 4 → wordOf caps s (Head (4 + t)) ≡ s .count t
+  pub count-word : 1 ≤ t → t ≤ 4 → wordOf caps s (Head (4 + t)) ≡ s .count t
   unfolding wordOf headWords
   count-word a b = at t a b
     where

@@ -3,23 +3,16 @@ use Rattle.checks.proofs.Rows.{cell-outside, cell-dead, cell-live}
 use borrow.Author.Needs.{needs}
 use Rattle.checks.proofs.check_cell.Statement.{statement}
 use Rattle.checks.proofs.check_cell.Tie as tie
-use Rattle.checks.proofs.check_cell.Reads as reads
-use Rattle.checks.proofs.check_cell.Lts as lts
-use Rattle.store.proofs.cell_word.Reads as cell-word-reads
 
--- src/lib.rt:21:9
 returns : tie.Need-returns
 returns c = cell-outside _ _ _ (c .if1 .taken)
 
--- src/lib.rt:23:8
 cell-word-requires : tie.Need-cell-word-requires
 cell-word-requires c κs = search needs
 
--- src/lib.rt:24:9
 returns-2 : tie.Need-returns-2
 returns-2 c = cell-dead _ _ _ (c .before .before .if1 .left) _ (c .before .cell-word .ensures) (c .if2 .taken)
 
--- src/lib.rt:17:1
 returns-3 : tie.Need-returns-3
 returns-3 c = cell-live _ _ _ (c .before .before .if1 .left) _ (c .before .cell-word .ensures) (c .if2 .left)
 

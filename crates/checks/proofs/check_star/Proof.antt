@@ -2,22 +2,16 @@
 use Rattle.checks.proofs.Rows.{star-low, star-high, star-mark, star-good}
 use Rattle.checks.proofs.check_star.Statement.{statement}
 use Rattle.checks.proofs.check_star.Tie as tie
-use Rattle.checks.proofs.check_star.Reads as reads
-use Rattle.checks.proofs.check_star.Lts as lts
 
--- src/lib.rt:51:9
 returns : tie.Need-returns
 returns c = star-low _ _ _ _ (c .if1 .taken)
 
--- src/lib.rt:54:9
 returns-2 : tie.Need-returns-2
 returns-2 c = star-high _ _ _ _ (c .before .if1 .left) (c .if2 .taken)
 
--- src/lib.rt:57:9
 returns-3 : tie.Need-returns-3
 returns-3 c = star-mark _ _ _ _ (c .before .before .before .if1 .left) (c .before .before .if2 .left) (c .if3 .taken)
 
--- src/lib.rt:47:1
 returns-4 : tie.Need-returns-4
 returns-4 c = star-good _ _ _ _ (c .before .before .before .if1 .left) (c .before .before .if2 .left) (c .if3 .left)
 

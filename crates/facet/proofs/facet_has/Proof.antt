@@ -5,37 +5,25 @@ use Rattle.facet.proofs.Copy.{facet-part}
 use borrow.Author.Needs.{needs}
 use Rattle.facet.proofs.facet_has.Statement.{statement}
 use Rattle.facet.proofs.facet_has.Tie as tie
-use Rattle.facet.proofs.facet_has.Reads as reads
-use Rattle.facet.proofs.facet_has.Lts as lts
-use Rattle.facet.proofs.copy_facet.Reads as copy-facet-reads
-use Rattle.lists.proofs.has.Reads as has-reads
-use Rattle.words.proofs.part.Reads as part-reads
 
--- src/lib.rt:71:45
 slice-aggregate-copy-facet : tie.Need-slice-aggregate-copy-facet
 slice-aggregate-copy-facet c = search needs
 
--- src/lib.rt:71:9
 copy-facet-requires : tie.Need-copy-facet-requires
 copy-facet-requires c κs = search needs
 
--- src/lib.rt:72:21
 slice-aggregate-part : tie.Need-slice-aggregate-part
 slice-aggregate-part c = search needs
 
--- src/lib.rt:72:32
 cast-part : tie.Need-cast-part
 cast-part c = search needs
 
--- src/lib.rt:72:16
 part-requires : tie.Need-part-requires
 part-requires c κs = search needs
 
--- src/lib.rt:72:5
 has-requires : tie.Need-has-requires
 has-requires c κs = search needs
 
--- src/lib.rt:67:1
 returns : tie.Need-returns
 returns c = c .has .ensures ∙ ap (has _) (c .before .part .ensures ∙ facet-part _ _ _ _ _ _ _ _ (c .before .before .before .before .copy-facet .ensures) refl)
 

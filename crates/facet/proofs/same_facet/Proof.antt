@@ -5,37 +5,25 @@ use Rattle.facet.proofs.Copy.{facet-part}
 use borrow.Author.Needs.{needs}
 use Rattle.facet.proofs.same_facet.Statement.{statement}
 use Rattle.facet.proofs.same_facet.Tie as tie
-use Rattle.facet.proofs.same_facet.Reads as reads
-use Rattle.facet.proofs.same_facet.Lts as lts
-use Rattle.facet.proofs.copy_facet.Reads as copy-facet-reads
-use Rattle.lists.proofs.same_set.Reads as same-set-reads
-use Rattle.words.proofs.part.Reads as part-reads
 
--- src/lib.rt:62:45
 slice-aggregate-copy-facet : tie.Need-slice-aggregate-copy-facet
 slice-aggregate-copy-facet c = search needs
 
--- src/lib.rt:62:9
 copy-facet-requires : tie.Need-copy-facet-requires
 copy-facet-requires c κs = search needs
 
--- src/lib.rt:63:24
 slice-aggregate-part : tie.Need-slice-aggregate-part
 slice-aggregate-part c = search needs
 
--- src/lib.rt:63:35
 cast-part : tie.Need-cast-part
 cast-part c = search needs
 
--- src/lib.rt:63:19
 part-requires : tie.Need-part-requires
 part-requires c κs = search needs
 
--- src/lib.rt:63:5
 same-set-requires : tie.Need-same-set-requires
 same-set-requires c κs = search needs
 
--- src/lib.rt:58:1
 returns : tie.Need-returns
 returns c = c .same-set .ensures ∙ ap (sameSet _) (c .before .part .ensures ∙ facet-part _ _ _ _ _ _ _ _ (c .before .before .before .before .copy-facet .ensures) refl)
 

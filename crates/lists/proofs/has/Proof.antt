@@ -8,8 +8,6 @@ use Rattle.lists.proofs.Scan.{has-stop, has-go, has-end}
 use borrow.Author.Needs.{needs}
 use Rattle.lists.proofs.has.Statement.{statement}
 use Rattle.lists.proofs.has.Tie as tie
-use Rattle.lists.proofs.has.Reads as reads
-use Rattle.lists.proofs.has.Lts as lts
 
 abbrev Inv-loop : tie.InvT-loop
 Inv-loop l v i₀ i = (i ≤ length l) × (has v l ≡ has v (drop i l))
@@ -17,35 +15,27 @@ Inv-loop l v i₀ i = (i ≤ length l) × (has v l ≡ has v (drop i l))
 abbrev μ-loop : tie.MeasureT-loop
 μ-loop l v i₀ i = length l - i
 
--- src/lib.rt:14:5
 loop-holds : tie.Need-loop-holds Inv-loop μ-loop
 loop-holds c = (search needs, refl)
 
--- src/lib.rt:15:12
 mul-if1 : tie.Need-mul-if1 Inv-loop μ-loop
 mul-if1 c = search needs
 
--- src/lib.rt:15:12
 shared-slice-read-if1 : tie.Need-shared-slice-read-if1 Inv-loop μ-loop
 shared-slice-read-if1 c = search needs
 
--- src/lib.rt:16:13
 returns : tie.Need-returns Inv-loop μ-loop
 returns c = has-stop _ _ (c .before .before .before .loop .i) (c .before .before .before .loop .inv .1) (c .if1 .taken) (omega arith)
 
--- src/lib.rt:18:9
 add-i : tie.Need-add-i Inv-loop μ-loop
 add-i c = search needs
 
--- src/lib.rt:14:5
 loop-less : tie.Need-loop-less Inv-loop μ-loop
 loop-less c = search needs
 
--- src/lib.rt:14:5
 loop-again : tie.Need-loop-again Inv-loop μ-loop
 loop-again c = (omega arith, has-go _ _ (c .before .before .before .loop .i) (c .before .before .before .loop .inv .1) (c .if1 .left) (omega arith))
 
--- src/lib.rt:10:1
 returns-2 : tie.Need-returns-2 Inv-loop μ-loop
 returns-2 c = has-end _ _ (c .before .loop .i) (c .before .loop .inv .1) (omega arith)
 

@@ -8,9 +8,6 @@ use Rattle.lists.proofs.Scan.{repeats-stop, repeats-go, repeats-end}
 use borrow.Author.Needs.{needs}
 use Rattle.lists.proofs.repeats.Statement.{statement}
 use Rattle.lists.proofs.repeats.Tie as tie
-use Rattle.lists.proofs.repeats.Reads as reads
-use Rattle.lists.proofs.repeats.Lts as lts
-use Rattle.lists.proofs.has.Reads as has-reads
 
 abbrev Inv-loop : tie.InvT-loop
 Inv-loop l i₀ i = (i ≤ length l) × (repeats l ≡ repeats (drop i l))
@@ -18,55 +15,42 @@ Inv-loop l i₀ i = (i ≤ length l) × (repeats l ≡ repeats (drop i l))
 abbrev μ-loop : tie.MeasureT-loop
 μ-loop l i₀ i = length l - i
 
--- src/lib.rt:52:5
 loop-holds : tie.Need-loop-holds Inv-loop μ-loop
 loop-holds c = (search needs, refl)
 
--- src/lib.rt:53:20
 add-next : tie.Need-add-next Inv-loop μ-loop
 add-next c = search needs
 
--- src/lib.rt:54:16
 mul-has : tie.Need-mul-has Inv-loop μ-loop
 mul-has c = search needs
 
--- src/lib.rt:54:16
 sub-has : tie.Need-sub-has Inv-loop μ-loop
 sub-has c = search needs
 
--- src/lib.rt:54:16
 part-has-start : tie.Need-part-has-start Inv-loop μ-loop
 part-has-start c = search needs
 
--- src/lib.rt:54:16
 part-has-end : tie.Need-part-has-end Inv-loop μ-loop
 part-has-end c = search needs
 
--- src/lib.rt:54:28
 mul-has-2 : tie.Need-mul-has-2 Inv-loop μ-loop
 mul-has-2 c = search needs
 
--- src/lib.rt:54:28
 shared-slice-read-has : tie.Need-shared-slice-read-has Inv-loop μ-loop
 shared-slice-read-has c = search needs
 
--- src/lib.rt:54:12
 has-requires : tie.Need-has-requires Inv-loop μ-loop
 has-requires c κs = search needs
 
--- src/lib.rt:55:13
 returns : tie.Need-returns Inv-loop μ-loop
 returns c = repeats-stop _ (c .before .before .before .before .before .loop .i) (c .before .before .before .before .before .loop .inv .1) (sym (c .before .has .ensures) ∙ c .if1 .taken) (omega arith)
 
--- src/lib.rt:52:5
 loop-less : tie.Need-loop-less Inv-loop μ-loop
 loop-less c = search needs
 
--- src/lib.rt:52:5
 loop-again : tie.Need-loop-again Inv-loop μ-loop
 loop-again c = (omega arith, repeats-go _ (c .before .before .before .before .before .loop .i) (c .before .before .before .before .before .loop .inv .1) (sym (c .before .has .ensures) ∙ c .if1 .left) (omega arith))
 
--- src/lib.rt:48:1
 returns-2 : tie.Need-returns-2 Inv-loop μ-loop
 returns-2 c = repeats-end _ (c .before .loop .i) (c .before .loop .inv .1) (omega arith)
 

@@ -5,23 +5,16 @@ use Rattle.lists.proofs.Sets.{same-set-stop, same-set-go}
 use borrow.Author.Needs.{needs}
 use Rattle.lists.proofs.same_set.Statement.{statement}
 use Rattle.lists.proofs.same_set.Tie as tie
-use Rattle.lists.proofs.same_set.Reads as reads
-use Rattle.lists.proofs.same_set.Lts as lts
-use Rattle.lists.proofs.subset.Reads as subset-reads
 
--- src/lib.rt:41:9
 subset-requires : tie.Need-subset-requires
 subset-requires c κs = search needs
 
--- src/lib.rt:42:9
 returns : tie.Need-returns
 returns c = sym (same-set-stop _ _ (sym (c .before .subset .ensures) ∙ not-true _ (c .if1 .taken)))
 
--- src/lib.rt:44:5
 subset-requires-2 : tie.Need-subset-requires-2
 subset-requires-2 c κs = search needs
 
--- src/lib.rt:38:1
 returns-2 : tie.Need-returns-2
 returns-2 c = c .subset2 .ensures ∙ sym (same-set-go _ _ (sym (c .before .before .subset .ensures) ∙ not-false _ (c .before .if1 .left)))
 

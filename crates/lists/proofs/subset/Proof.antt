@@ -9,9 +9,6 @@ use Rattle.lists.proofs.Scan.{all-stop, all-go, all-end}
 use borrow.Author.Needs.{needs}
 use Rattle.lists.proofs.subset.Statement.{statement}
 use Rattle.lists.proofs.subset.Tie as tie
-use Rattle.lists.proofs.subset.Reads as reads
-use Rattle.lists.proofs.subset.Lts as lts
-use Rattle.lists.proofs.has.Reads as has-reads
 
 abbrev Inv-loop : tie.InvT-loop
 Inv-loop a b i₀ i = (i ≤ length a) × (all (λ x. has x b) a ≡ all (λ x. has x b) (drop i a))
@@ -19,39 +16,30 @@ Inv-loop a b i₀ i = (i ≤ length a) × (all (λ x. has x b) a ≡ all (λ x. 
 abbrev μ-loop : tie.MeasureT-loop
 μ-loop a b i₀ i = length a - i
 
--- src/lib.rt:28:5
 loop-holds : tie.Need-loop-holds Inv-loop μ-loop
 loop-holds c = (search needs, refl)
 
--- src/lib.rt:29:20
 mul-has : tie.Need-mul-has Inv-loop μ-loop
 mul-has c = search needs
 
--- src/lib.rt:29:20
 shared-slice-read-has : tie.Need-shared-slice-read-has Inv-loop μ-loop
 shared-slice-read-has c = search needs
 
--- src/lib.rt:29:13
 has-requires : tie.Need-has-requires Inv-loop μ-loop
 has-requires c κs = search needs
 
--- src/lib.rt:30:13
 returns : tie.Need-returns Inv-loop μ-loop
 returns c = all-stop _ _ (c .before .before .before .before .loop .i) (c .before .before .before .before .loop .inv .1) (sym (c .before .has .ensures) ∙ not-true _ (c .if1 .taken)) (omega arith)
 
--- src/lib.rt:32:9
 add-i : tie.Need-add-i Inv-loop μ-loop
 add-i c = search needs
 
--- src/lib.rt:28:5
 loop-less : tie.Need-loop-less Inv-loop μ-loop
 loop-less c = search needs
 
--- src/lib.rt:28:5
 loop-again : tie.Need-loop-again Inv-loop μ-loop
 loop-again c = (omega arith, all-go _ _ (c .before .before .before .before .loop .i) (c .before .before .before .before .loop .inv .1) (sym (c .before .has .ensures) ∙ not-false _ (c .if1 .left)) (omega arith))
 
--- src/lib.rt:24:1
 returns-2 : tie.Need-returns-2 Inv-loop μ-loop
 returns-2 c = all-end _ _ (c .before .loop .i) (c .before .loop .inv .1) (omega arith)
 

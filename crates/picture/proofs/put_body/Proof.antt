@@ -5,10 +5,6 @@ use Rattle.picture.proofs.Bodies.{Written, written-start, written-more,
 use borrow.Author.Needs.{needs}
 use Rattle.picture.proofs.put_body.Statement.{statement}
 use Rattle.picture.proofs.put_body.Tie as tie
-use Rattle.picture.proofs.put_body.Reads as reads
-use Rattle.picture.proofs.put_body.Lts as lts
-use Rattle.store.proofs.put_cell.Reads as put-cell-reads
-use Rattle.words.proofs.word.Reads as word-reads
 
 abbrev Inv-loop : tie.InvT-loop
 Inv-loop w₀ caps c t marks k₀ w k = (k ≤ 4) × Written caps c marks w₀ w k
@@ -16,47 +12,36 @@ Inv-loop w₀ caps c t marks k₀ w k = (k ≤ 4) × Written caps c marks w₀ w
 abbrev μ-loop : tie.MeasureT-loop
 μ-loop w₀ caps c t marks k₀ w k = 4 - k
 
--- src/lib.rt:50:5
 loop-holds : tie.Need-loop-holds Inv-loop μ-loop
 loop-holds c = (omega arith, written-start _ _ _ _)
 
--- src/lib.rt:51:30
 add-put-cell : tie.Need-add-put-cell Inv-loop μ-loop
 add-put-cell c = search needs
 
--- src/lib.rt:51:49
 cast-word : tie.Need-cast-word Inv-loop μ-loop
 cast-word c = search needs
 
--- src/lib.rt:51:37
 word-requires : tie.Need-word-requires Inv-loop μ-loop
 word-requires c κs = search needs
 
--- src/lib.rt:51:9
 put-cell-requires : tie.Need-put-cell-requires Inv-loop μ-loop
 put-cell-requires c κs = search needs
 
--- src/lib.rt:52:9
 add-k : tie.Need-add-k Inv-loop μ-loop
 add-k c = search needs
 
--- src/lib.rt:50:5
 loop-less : tie.Need-loop-less Inv-loop μ-loop
 loop-less c = search needs
 
--- src/lib.rt:50:5
 loop-again : tie.Need-loop-again Inv-loop μ-loop
 loop-again c = (omega arith, written-more _ _ _ _ _ _ (c .before .before .before .before .before .before .loop .k) _ (c .before .before .before .before .before .before .loop .inv .1) (c .before .before .before .word .ensures) (c .before .before .put-cell .ensures) (omega arith))
 
--- src/lib.rt:54:5
 put-cell-requires-2 : tie.Need-put-cell-requires-2 Inv-loop μ-loop
 put-cell-requires-2 c κs = search needs
 
--- src/lib.rt:46:1
 same-length : tie.Need-same-length Inv-loop μ-loop
 same-length c = search needs
 
--- src/lib.rt:46:1
 returns : tie.Need-returns Inv-loop μ-loop
 returns c = written-done _ _ _ _ _ _ (c .before .before .before .before .before .loop .k) _ (c .before .before .before .before .before .loop .inv .1) (c .before .before .put-cell2 .ensures) (c .before .before .before .before .before .loop .inv .0) (omega arith)
 

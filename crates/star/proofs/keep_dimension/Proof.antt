@@ -9,12 +9,6 @@ use Rattle.star.specs.Along.{kept}
 use borrow.Author.Needs.{needs}
 use Rattle.star.proofs.keep_dimension.Statement.{statement}
 use Rattle.star.proofs.keep_dimension.Tie as tie
-use Rattle.star.proofs.keep_dimension.Reads as reads
-use Rattle.star.proofs.keep_dimension.Lts as lts
-use Rattle.shapes.proofs.dimension.Reads as dimension-reads
-use Rattle.store.proofs.cell_word.Reads as cell-word-reads
-use Rattle.words.proofs.put.Reads as put-reads
-use Rattle.words.proofs.word.Reads as word-reads
 
 abbrev Inv-loop : tie.InvT-loop
 Inv-loop w caps d cells n out₀ k₀ i₀ out k i = (i ≤ n) × (k ≤ i) × Copied (kept w caps d cells i) out₀ k out
@@ -22,47 +16,36 @@ Inv-loop w caps d cells n out₀ k₀ i₀ out k i = (i ≤ n) × (k ≤ i) × C
 abbrev μ-loop : tie.MeasureT-loop
 μ-loop w caps d cells n out₀ k₀ i₀ out k i = n - i
 
--- src/lib.rt:25:5
 loop-holds : tie.Need-loop-holds Inv-loop μ-loop
 loop-holds c = (omega arith, omega arith, kept-start _ _ _ _ _)
 
--- src/lib.rt:26:29
 cast-word : tie.Need-cast-word Inv-loop μ-loop
 cast-word c = search needs
 
--- src/lib.rt:26:13
 word-requires : tie.Need-word-requires Inv-loop μ-loop
 word-requires c κs = search needs
 
--- src/lib.rt:27:22
 cell-word-requires : tie.Need-cell-word-requires Inv-loop μ-loop
 cell-word-requires c κs = search needs
 
--- src/lib.rt:27:12
 dimension-requires : tie.Need-dimension-requires Inv-loop μ-loop
 dimension-requires c κs = search needs
 
--- src/lib.rt:28:22
 cast-put : tie.Need-cast-put Inv-loop μ-loop
 cast-put c = search needs
 
--- src/lib.rt:28:13
 put-requires : tie.Need-put-requires Inv-loop μ-loop
 put-requires c κs = search needs
 
--- src/lib.rt:29:13
 add-k : tie.Need-add-k Inv-loop μ-loop
 add-k c = search needs
 
--- src/lib.rt:31:9
 add-i : tie.Need-add-i Inv-loop μ-loop
 add-i c = search needs
 
--- src/lib.rt:25:5
 loop-less : tie.Need-loop-less Inv-loop μ-loop
 loop-less c = search needs
 
--- src/lib.rt:25:5
 loop-again : tie.Need-loop-again Inv-loop μ-loop
 loop-again c = 
     ⊎-elim
@@ -76,11 +59,9 @@ loop-again c =
       , rw (w .2, w .1) (kept-no _ _ _ _ _ (c .before .before .before .before .before .loop .i) _ _ _ _ _ (c .before .before .before .before .before .loop .inv .2) (c .before .before .before .word .ensures) (c .before .before .cell-word .ensures) (c .before .dimension .ensures) (w .0 .left))))
     (c .if1 .came)
 
--- src/lib.rt:20:1
 same-length : tie.Need-same-length Inv-loop μ-loop
 same-length c = search needs
 
--- src/lib.rt:20:1
 returns : tie.Need-returns Inv-loop μ-loop
 returns c = kept-end _ _ _ _ _ _ (c .before .loop .i) _ _ (c .before .loop .inv .2) (c .before .loop .inv .0) (omega arith)
 

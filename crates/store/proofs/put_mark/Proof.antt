@@ -6,39 +6,28 @@ use Rattle.store.proofs.Writes.{mark-in, mark-out, mark-past}
 use borrow.Author.Needs.{needs}
 use Rattle.store.proofs.put_mark.Statement.{statement}
 use Rattle.store.proofs.put_mark.Tie as tie
-use Rattle.store.proofs.put_mark.Reads as reads
-use Rattle.store.proofs.put_mark.Lts as lts
-use Rattle.words.proofs.put.Reads as put-reads
 
--- src/lib.rt:72:9
 returns : tie.Need-returns
 returns c = sym (mark-out _ _ _ _ _ (c .if1 .taken))
 
--- src/lib.rt:75:9
 returns-2 : tie.Need-returns-2
 returns-2 c = sym (mark-past _ _ _ _ _ (c .before .if1 .left) (c .if2 .taken))
 
--- src/lib.rt:77:17
 mul-put : tie.Need-mul-put
 mul-put c = search needs
 
--- src/lib.rt:77:12
 add-put : tie.Need-add-put
 add-put c = search needs
 
--- src/lib.rt:77:12
 add-put-2 : tie.Need-add-put-2
 add-put-2 c = search needs
 
--- src/lib.rt:77:5
 put-requires : tie.Need-put-requires
 put-requires c κs = search needs
 
--- src/lib.rt:68:1
 same-length : tie.Need-same-length
 same-length c = search needs
 
--- src/lib.rt:68:1
 returns-3 : tie.Need-returns-3
 unfolding markAt
 returns-3 c = c .before .before .put .ensures ∙ sym (mark-in _ _ _ _ _ (omega arith) (omega arith))

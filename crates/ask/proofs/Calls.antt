@@ -1,0 +1,174 @@
+-- Each query from its checks and the word that it reads.
+use mathlib.Core.Path.{_≡_, refl, sym, ap, _∙_}
+use mathlib.Core.Bool.{Bool, true, false, cond}
+use mathlib.Core.List.{List, [], _∷_}
+use Prim.Native.Nat.{ℕ, zero, suc, _+_, _-_, _*_, _/_, _%_, _<_, _≤_}
+use native.Mathlib.Omega.{arith}
+use lib.ListN.{getD, length, take}
+use Rattle.lists.proofs.Bools.{clash, not-true-false}
+use Rattle.numbers.specs.declared.Half.{Half}
+use Rattle.numbers.specs.Half.{halfOf}
+use Rattle.store.specs.declared.Caps.{Caps}
+use Rattle.store.specs.declared.Opened.the-variants.{Mesh, Nothing}
+use Rattle.store.specs.Layout.{markAt, cellAt}
+use Rattle.store.specs.Slots.{isMesh}
+use Rattle.store.specs.Open.{opened}
+use Rattle.map.specs.Cells.{Map, cellsOf}
+use Rattle.map.specs.Siblings.{sibling, border}
+use Rattle.map.specs.Stars.{anchors}
+use Rattle.map.specs.Answers.{Answer, cellChecks, halfChecks, starChecks, typeChecks, typeAnswer, siblingAnswer, borderAnswer, firstAnchorAnswer, countAnswer, stepAnswer}
+use Rattle.map.specs.Paper.{given, refused, valueSays, halfSays, truthSays, foundSays, stepSays}
+use Rattle.map.specs.declared.Refusal.{Refusal}
+use Rattle.map.specs.declared.Refusal.the-variants.{NotMesh}
+use Rattle.map.specs.declared.Value.the-variants as Value
+use Rattle.map.specs.declared.HalfAt.{HalfAt}
+use Rattle.map.specs.declared.HalfAt.the-variants as HalfAt′
+use Rattle.map.specs.declared.Truth.the-variants as Truth
+use Rattle.map.specs.declared.Found.the-variants as Found
+use Rattle.map.specs.declared.Step.the-variants as Step
+use Rattle.map.specs.declared.Verdict.{Verdict}
+use Rattle.map.specs.declared.Verdict.the-variants.{Accepted, Refused}
+use Rattle.laws.proofs.Cycles.{border-self, self-border}
+use Rattle.picture.specs.State.{next, capsOf}
+use Rattle.picture.specs.Picture.{Wf}
+use Rattle.checks.specs.Checked.{Checked}
+use Rattle.checks.proofs.Rows.{marks-of, cells-of, code-of}
+use Rattle.checks.proofs.Passed.{cell-numbered, half-numbered, star-numbered, type-numbered, cell-passed, half-passed, star-passed, type-passed}
+use Rattle.ask.specs.Asked.{Asked}
+use Rattle.ask.specs.Refusals.{noValue, noHalf, noTruth, noFound, noStep}
+use Rattle.ask.proofs.Asks.{asked-refused, asked-given}
+use Rattle.ask.proofs.Words.{half-is, uncut-is, sibling-is, anchor-is, count-is}
+
+-- a first as number + 1
+next-none : (l : List ℕ) → next l ≡ 0 → take 1 l ≡ []
+unfolding next
+next-none [] e = refl
+next-none (x ∷ xs) e = absurd (omega arith)
+
+next-some : (l : List ℕ) (h : ℕ) → next l ≡ suc h → take 1 l ≡ h ∷ []
+unfolding next
+next-some [] h e = absurd (omega arith)
+next-some (x ∷ xs) h e = let q : x ≡ h = omega arith in rw q
+
+module _ (w : List ℕ) (caps : Caps) (opens : Mesh caps ≡ opened w) (verdict : Verdict) where
+  module _ (c : ℕ) (checked : Checked w caps (λ m. cellChecks m c) verdict) where
+    pub type-refused : (why : Refusal) → verdict ≡ Refused why → Asked valueSays noValue w (λ m. typeAnswer m c) (Value.Refused why)
+    unfolding typeAnswer valueSays
+    type-refused why v =
+        asked-refused valueSays noValue w caps (λ m. cellChecks m c) (λ m. m .at c .code ∷ []) opens (Value.Refused why) why verdict checked v refl
+
+    pub type-given : verdict ≡ Accepted → (t : ℕ) → t ≡ getD w (cellAt (caps .marks) c + 0) 0 → Asked valueSays noValue w (λ m. typeAnswer m c) (Value.Is t)
+    unfolding typeAnswer valueSays
+    type-given v t word =
+        asked-given valueSays noValue w caps (λ m. cellChecks m c) (λ m. m .at c .code ∷ []) opens (Value.Is t) verdict checked v (λ m. cell-numbered m c)
+        (λ m e wf.
+          let below : c < caps .cells = omega (arith, cell-passed w caps verdict v m e wf c checked .0, cells-of caps m e) in
+          ap (λ (n : ℕ). given (n ∷ [])) (word ∙ code-of caps m e w wf c below))
+
+  module _ (c f : ℕ) (checked : Checked w caps (λ m. halfChecks m c f) verdict) where
+    pub sibling-refused : (why : Refusal) → verdict ≡ Refused why → Asked halfSays noHalf w (λ m. siblingAnswer m c f) (HalfAt′.Refused why)
+    unfolding siblingAnswer halfSays
+    sibling-refused why v =
+        asked-refused halfSays noHalf w caps (λ m. halfChecks m c f) (λ m. sibling m (halfOf c f) ∷ []) opens (HalfAt′.Refused why) why verdict checked v refl
+
+    pub border-refused : (why : Refusal) → verdict ≡ Refused why → Asked truthSays noTruth w (λ m. borderAnswer m c f) (Truth.Refused why)
+    unfolding borderAnswer truthSays
+    border-refused why v =
+        asked-refused truthSays noTruth w caps (λ m. halfChecks m c f) (λ m. cond (border m (halfOf c f)) 1 0 ∷ []) opens (Truth.Refused why) why verdict checked v
+        refl
+
+    module _ (v : verdict ≡ Accepted) (x : ℕ) (word : x ≡ getD w (cellAt (caps .marks) c + (5 + f)) 0) where
+      led : (m : Map) (e : capsOf m ≡ caps) (wf : Wf w m) → x ≡ sibling m (halfOf c f)
+      led m e wf =
+          let p = half-passed w caps verdict v m e wf c f checked in
+          word ∙ sibling-is w caps m e wf c f (p .0) (p .2)
+
+      pub sibling-given : (h : Half) → h .0 ≡ x → Asked halfSays noHalf w (λ m. siblingAnswer m c f) (HalfAt′.At h)
+      unfolding siblingAnswer halfSays
+      sibling-given h q =
+          asked-given halfSays noHalf w caps (λ m. halfChecks m c f) (λ m. sibling m (halfOf c f) ∷ []) opens (HalfAt′.At h) verdict checked v
+          (λ m. half-numbered m c f) (λ m e wf. ap (λ (n : ℕ). given (n ∷ [])) (q ∙ led m e wf))
+
+      -- its own sibling: a border
+      pub border-yes : (y : ℕ) → y ≡ halfOf (c % 65536) (f % 8) → x ≡ y → Asked truthSays noTruth w (λ m. borderAnswer m c f) Truth.Yes
+      unfolding borderAnswer truthSays
+      border-yes y half same =
+          asked-given truthSays noTruth w caps (λ m. halfChecks m c f) (λ m. cond (border m (halfOf c f)) 1 0 ∷ []) opens Truth.Yes verdict checked v
+          (λ m. half-numbered m c f)
+          (λ m e wf.
+            let p = half-passed w caps verdict v m e wf c f checked in
+            let own : sibling m (halfOf c f) ≡ halfOf c f = sym (led m e wf) ∙ (same ∙ (half ∙ uncut-is w caps m e wf c f (p .0) (p .2))) in
+            rw (self-border m (halfOf c f) (half-is w caps m e wf c f (p .0) (p .2)) own))
+
+      pub border-no : (y : ℕ) → y ≡ halfOf (c % 65536) (f % 8) → (x ≡ y → ⊥) → Asked truthSays noTruth w (λ m. borderAnswer m c f) Truth.No
+      unfolding borderAnswer truthSays
+      border-no y half other =
+          asked-given truthSays noTruth w caps (λ m. halfChecks m c f) (λ m. cond (border m (halfOf c f)) 1 0 ∷ []) opens Truth.No verdict checked v
+          (λ m. half-numbered m c f)
+          (λ m e wf.
+            let p = half-passed w caps verdict v m e wf c f checked in
+            let none : border m (halfOf c f) ≡ false = not-true-false (border m (halfOf c f)) (λ b.
+                other (led m e wf ∙ (border-self m (halfOf c f) (half-is w caps m e wf c f (p .0) (p .2)) b ∙ sym (half ∙ uncut-is w caps m e wf c f (p .0) (p .2))))) in
+            rw none)
+
+  module _ (d v : ℕ) (checked : Checked w caps (λ m. starChecks m d v) verdict) where
+    pub anchor-refused : (why : Refusal) → verdict ≡ Refused why → Asked foundSays noFound w (λ m. firstAnchorAnswer m d v) (Found.Refused why)
+    unfolding firstAnchorAnswer foundSays
+    anchor-refused why q =
+        asked-refused foundSays noFound w caps (λ m. starChecks m d v) (λ m. take 1 (anchors m d v)) opens (Found.Refused why) why verdict checked q refl
+
+    module _ (ok : verdict ≡ Accepted) (x : ℕ) (word : x ≡ getD w (markAt v + (1 + d)) 0) where
+      first-word : (m : Map) (e : capsOf m ≡ caps) (wf : Wf w m) → x ≡ next (anchors m d v)
+      first-word m e wf =
+          let p = star-passed w caps verdict ok m e wf d v checked in
+          word ∙ anchor-is w caps m e wf d v (p .0) (p .1) (p .2)
+
+      pub anchor-none : x ≡ 0 → Asked foundSays noFound w (λ m. firstAnchorAnswer m d v) Found.Nothing
+      unfolding firstAnchorAnswer foundSays
+      anchor-none z =
+          asked-given foundSays noFound w caps (λ m. starChecks m d v) (λ m. take 1 (anchors m d v)) opens Found.Nothing verdict checked ok
+          (λ m. star-numbered m d v) (λ m e wf. ap given (sym (next-none (anchors m d v) (sym (first-word m e wf) ∙ z))))
+
+      pub anchor-found : (x ≡ 0 → ⊥) → (h : Half) → h .0 ≡ x - 1 → Asked foundSays noFound w (λ m. firstAnchorAnswer m d v) (Found.At h)
+      unfolding firstAnchorAnswer foundSays
+      anchor-found some h q =
+          asked-given foundSays noFound w caps (λ m. starChecks m d v) (λ m. take 1 (anchors m d v)) opens (Found.At h) verdict checked ok
+          (λ m. star-numbered m d v)
+          (λ m e wf. ap given (sym (next-some (anchors m d v) (h .0) (sym (first-word m e wf) ∙ omega arith))))
+
+  module _ (t : ℕ) (checked : Checked w caps (λ m. typeChecks t) verdict) where
+    pub count-refused : (why : Refusal) → verdict ≡ Refused why → Asked valueSays noValue w (λ m. countAnswer m t) (Value.Refused why)
+    unfolding countAnswer valueSays
+    count-refused why q =
+        asked-refused valueSays noValue w caps (λ m. typeChecks t) (λ m. length (cellsOf m t) ∷ []) opens (Value.Refused why) why verdict checked q refl
+
+    pub count-given : verdict ≡ Accepted → (x : ℕ) → x ≡ getD w (4 + t) 0 → Asked valueSays noValue w (λ m. countAnswer m t) (Value.Is x)
+    unfolding countAnswer valueSays
+    count-given ok x word =
+        asked-given valueSays noValue w caps (λ m. typeChecks t) (λ m. length (cellsOf m t) ∷ []) opens (Value.Is x) verdict checked ok
+        (λ m. type-numbered t)
+        (λ m e wf. ap (λ (n : ℕ). given (n ∷ [])) (word ∙ count-is w caps m e wf t (type-passed w caps verdict ok m e wf t checked)))
+
+-- a walker's step is the sibling of its place
+module _ (w : List ℕ) (h c f : ℕ) (r : HalfAt) (cell : c ≡ h / 8) (facet : f ≡ h % 8)
+    (asked : Asked halfSays noHalf w (λ m. siblingAnswer m c f) r) where
+  same-place : (m : Map) → siblingAnswer m c f ≡ stepAnswer m h
+  unfolding stepAnswer
+  same-place m = rw (cell, facet)
+
+  pub step-refused : (why : Refusal) → r ≡ HalfAt′.Refused why → Asked stepSays noStep w (λ m. stepAnswer m h) (Step.Refused why)
+  unfolding stepSays halfSays
+  step-refused why q = record
+      { refused = λ no. let same : HalfAt′.Refused why ≡ HalfAt′.Refused NotMesh = sym q ∙ asked .refused no in cc
+      ; answers = λ m wf. ap halfSays (sym q) ∙ (asked .answers m wf ∙ same-place m)
+      }
+
+  pub step-next : (k : Half) → r ≡ HalfAt′.At k → Asked stepSays noStep w (λ m. stepAnswer m h) (Step.Next (record { 0 = k }))
+  unfolding stepSays halfSays
+  step-next k q = record
+      { refused = λ no. absurd (never k (sym q ∙ asked .refused no))
+      ; answers = λ m wf. ap halfSays (sym q) ∙ (asked .answers m wf ∙ same-place m)
+      }
+    where
+      never : (k : Half) → HalfAt′.At k ≡ HalfAt′.Refused NotMesh → ⊥
+      never k e = let z : _≡_ {A = ℕ} 0 1 = cc in omega arith

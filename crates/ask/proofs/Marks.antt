@@ -1,0 +1,111 @@
+-- The marks of a cell are a part of its record.
+use mathlib.Core.Path.{_≡_, refl, sym, ap, _∙_}
+use mathlib.Core.Bool.{Bool, true, false, cond}
+use mathlib.Core.List.{List, [], _∷_}
+use Prim.Native.Nat.{ℕ, zero, suc, _+_, _*_, _<_, _≤_}
+use native.Mathlib.Omega.{arith}
+use borrow.Author.Tests.{eq-eqb, ne-eqb}
+use lib.Dec.{eqb}
+use lib.ListN.{getD, length, take, drop, length-take, length-drop}
+use lib.Seq.{ext-getD, getD-take, getD-drop, length-take-le}
+use Rattle.lists.proofs.Bools.{clash}
+use Rattle.words.specs.Words.{partOf}
+use Rattle.words.proofs.Fits.{part-fits}
+use Rattle.shapes.specs.Shapes.{shape}
+use Rattle.store.specs.declared.Caps.{Caps}
+use Rattle.store.specs.declared.Opened.the-variants.{Mesh, Nothing}
+use Rattle.store.specs.Layout.{room, cellAt, Cell, address}
+use Rattle.store.specs.Slots.{isMesh}
+use Rattle.store.specs.Open.{opened}
+use Rattle.map.specs.Cells.{Map}
+use Rattle.map.specs.Answers.{Answer, answer, cellChecks, typeAnswer, marksPart}
+use Rattle.map.specs.Paper.{numberOf, given, refused, verdictSays}
+use Rattle.map.specs.declared.Refusal.{Refusal}
+use Rattle.map.specs.declared.Verdict.{Verdict}
+use Rattle.map.specs.declared.Verdict.the-variants.{Accepted, Refused}
+use Rattle.picture.specs.State.{capsOf, stateOf}
+use Rattle.picture.specs.Picture.{wordOf, cellWords, corner, Wf}
+use Rattle.chain.proofs.Readied.{four-marks}
+use Rattle.facet.specs.Facet.{cornerIn}
+use Rattle.sibling.proofs.OnPicture.{corner-read}
+use Rattle.checks.specs.Checked.{Checked}
+use Rattle.checks.proofs.Rows.{marks-of, cells-of, code-of}
+use Rattle.checks.proofs.Values.{number-some, refused-values, given-values}
+use Rattle.checks.proofs.Passed.{cell-numbered, cell-passed}
+use Rattle.checks.proofs.Opens.{nothing-opened, mesh-opened, wf-mesh, wf-caps}
+use Rattle.ask.specs.Asked.{Handed}
+
+-- a refusal's number is not 0
+some-number : (why : Refusal) → eqb (numberOf why) 0 ≡ false
+some-number why = ne-eqb (numberOf why) 0 (λ z. omega (arith, number-some why))
+
+-- no part
+part-zero : (w : List ℕ) → partOf w 0 0 ≡ []
+part-zero w = part-fits w 0 0 (omega arith)
+
+module _ (w : List ℕ) (caps : Caps) (m : Map) (e : capsOf m ≡ caps) (wf : Wf w m) (c : ℕ) where
+  record-fits : (n : ℕ) → c < m .cells → n ≤ 4 → cellAt (caps .marks) c + 1 + n ≤ length w
+  unfolding cellAt room capsOf
+  record-fits n hc hn = omega (arith, wf .picture .fits, marks-of caps m e, cells-of caps m e)
+
+  corner-is : (j : ℕ) → c < m .cells → j < 4 → getD w (cellAt (caps .marks) c + 1 + j) 0 ≡ getD (m .at c .marks) j 0
+  unfolding capsOf stateOf cornerIn
+  corner-is j hc hj =
+      let place : cellAt (caps .marks) c + 1 + j ≡ cellAt (m .marks) c + (1 + j) = omega (arith, ap (λ (k : ℕ). cellAt k c) (marks-of caps m e)) in
+      ap (λ (k : ℕ). getD w k 0) place ∙ corner-read w (capsOf m) (stateOf m) (wf .picture) c hc j hj
+
+module _ (w : List ℕ) (part : Map → List ℕ) where
+  pub handed-none : Nothing ≡ opened w → (r : List ℕ) → r ≡ partOf w 0 0 → Handed w part r
+  handed-none e r q = record { refused = λ _. q ∙ part-zero w; answers = λ m wf. absurd (clash (wf-mesh w m wf) (nothing-opened w e)) }
+
+module _ (w : List ℕ) (caps : Caps) (opens : Mesh caps ≡ opened w) (c : ℕ) (verdict : Verdict) (checked : Checked w caps (λ m. cellChecks m c) verdict) where
+  mesh : isMesh w ≡ false → ⊥
+  mesh none = clash (mesh-opened w caps opens .0) none
+
+  pub handed-refused : (why : Refusal) → verdict ≡ Refused why → (r : List ℕ) → r ≡ partOf w 0 0 → Handed w (λ m. marksPart m c) r
+  unfolding marksPart typeAnswer verdictSays refused
+  handed-refused why v r q = record
+      { refused = λ none. absurd (mesh none)
+      ; answers = λ m wf.
+          let e = wf-caps w m wf caps opens in
+          let a : refused why ≡ answer (cellChecks m c) (m .at c .code ∷ []) =
+              refused-values (cellChecks m c) why (m .at c .code ∷ []) (ap verdictSays (sym v) ∙ checked .says m e wf) in
+          (q ∙ part-zero w) ∙ rw (← a, some-number why)
+      }
+
+  module _ (v : verdict ≡ Accepted) where
+    -- the corners of the record, as many as the type has marks
+    corners : (m : Map) → capsOf m ≡ caps → Wf w m → partOf w (cellAt (caps .marks) c + 1) (length (m .at c .marks)) ≡ m .at c .marks
+    corners m e wf =
+        part-fits w (cellAt (caps .marks) c + 1) (length (m .at c .marks)) fits
+        ∙ ext-getD 0 (take (length (m .at c .marks)) (drop (cellAt (caps .marks) c + 1) w)) (m .at c .marks) size
+        (λ j h.
+          let less : j < length (m .at c .marks) = omega (arith, size) in
+          getD-take (length (m .at c .marks)) (drop (cellAt (caps .marks) c + 1) w) j 0 less
+          ∙ (getD-drop (cellAt (caps .marks) c + 1) w j 0 ∙ at j less))
+      where
+        below : c < m .cells
+        below = cell-passed w caps verdict v m e wf c checked .0
+        four : length (m .at c .marks) ≤ 4
+        four = omega (arith, wf .sound .fitting c, four-marks (m .at c .code))
+        fits : cellAt (caps .marks) c + 1 + length (m .at c .marks) ≤ length w
+        fits = record-fits w caps m e wf c (length (m .at c .marks)) below four
+        size : length (take (length (m .at c .marks)) (drop (cellAt (caps .marks) c + 1) w)) ≡ length (m .at c .marks)
+        size = length-take-le (length (m .at c .marks)) (drop (cellAt (caps .marks) c + 1) w) (omega (arith, length-drop (cellAt (caps .marks) c + 1) w, fits))
+        at : (j : ℕ) → j < length (m .at c .marks) → getD w (cellAt (caps .marks) c + 1 + j) 0 ≡ getD (m .at c .marks) j 0
+        at j h = corner-is w caps m e wf c j below (omega (arith, four))
+
+    pub handed-marks : (t n : ℕ) → t ≡ getD w (cellAt (caps .marks) c + 0) 0 → n ≡ shape t .marks → (r : List ℕ)
+        → r ≡ partOf w (cellAt (caps .marks) c + 1) n → Handed w (λ m. marksPart m c) r
+    unfolding marksPart typeAnswer verdictSays given
+    handed-marks t n word count r q = record
+        { refused = λ none. absurd (mesh none)
+        ; answers = λ m wf.
+            let e = wf-caps w m wf caps opens in
+            let a : given (m .at c .code ∷ []) ≡ answer (cellChecks m c) (m .at c .code ∷ []) =
+                given-values (cellChecks m c) (m .at c .code ∷ []) (cell-numbered m c) (ap verdictSays (sym v) ∙ checked .says m e wf) in
+            let below : c < caps .cells = omega (arith, cell-passed w caps verdict v m e wf c checked .0, cells-of caps m e) in
+            let code : t ≡ m .at c .code = word ∙ code-of caps m e w wf c below in
+            let size : n ≡ length (m .at c .marks) = count ∙ (ap (λ (k : ℕ). shape k .marks) code ∙ sym (wf .sound .fitting c)) in
+            (q ∙ (ap (partOf w (cellAt (caps .marks) c + 1)) size ∙ corners m e wf)) ∙ rw (← a)
+        }
