@@ -1,7 +1,7 @@
 -- A verdict on a row of checks is the verdict whatever the values.
 use mathlib.Core.Path.{_≡_, refl, sym, ap, _∙_}
 use mathlib.Core.Bool.{Bool, true, false, cond, not, _&&_}
-use mathlib.Core.List.{List, [], _∷_}
+use mathlib.Core.List.{List, [], _∷_, _++_}
 use Prim.Native.Nat.{ℕ, zero, suc, _≤_}
 use native.Mathlib.Omega.{arith}
 use borrow.Author.Tests.{eqb-false, not-true}
@@ -69,5 +69,29 @@ all-pass (c ∷ cs) n e =
     some = eqb-false (c .number) 0 (not-true (eqb (c .number) 0) (and-left (not (eqb (c .number) 0)) (all (λ (c : Check). not (eqb (c .number) 0)) cs) n))
     go : (b : Bool) → given [] ≡ cond b (record { refusal = c .number; values = [] }) (answer cs [])
       → (given [] ≡ answer cs [] → all (λ (c : Check). not (c .fails)) cs ≡ true) → not b && all (λ (c : Check). not (c .fails)) cs ≡ true
+    go true e f = absurd (some (sym (ap (λ (a : Answer). a .refusal) e)))
+    go false e f = f e
+
+-- one check more behind a row
+pub refused-more : (checks more : List Check) (r : Refusal) (values : List ℕ) → refused r ≡ answer checks [] → refused r ≡ answer (checks ++ more) values
+unfolding refused answer
+refused-more [] more r values e = absurd (omega (arith, number-some r, ap (λ (a : Answer). a .refusal) e))
+refused-more (c ∷ cs) more r values e = go (c .fails) e (refused-more cs more r values)
+  where
+    go : (b : Bool) → refused r ≡ cond b (record { refusal = c .number; values = [] }) (answer cs [])
+      → (refused r ≡ answer cs [] → refused r ≡ answer (cs ++ more) values) → refused r ≡ cond b (record { refusal = c .number; values = [] }) (answer (cs ++ more) values)
+    go true e f = e
+    go false e f = f e
+
+pub given-more : (checks more : List Check) (values : List ℕ) → Numbered checks → given [] ≡ answer checks [] → answer more values ≡ answer (checks ++ more) values
+unfolding given answer all
+given-more [] more values n e = refl
+given-more (c ∷ cs) more values n e =
+    go (c .fails) e (given-more cs more values (and-right (not (eqb (c .number) 0)) (all (λ (c : Check). not (eqb (c .number) 0)) cs) n))
+  where
+    some : c .number ≡ 0 → ⊥
+    some = eqb-false (c .number) 0 (not-true (eqb (c .number) 0) (and-left (not (eqb (c .number) 0)) (all (λ (c : Check). not (eqb (c .number) 0)) cs) n))
+    go : (b : Bool) → given [] ≡ cond b (record { refusal = c .number; values = [] }) (answer cs []) → (given [] ≡ answer cs [] → answer more values ≡ answer (cs ++ more) values)
+      → answer more values ≡ cond b (record { refusal = c .number; values = [] }) (answer (cs ++ more) values)
     go true e f = absurd (some (sym (ap (λ (a : Answer). a .refusal) e)))
     go false e f = f e

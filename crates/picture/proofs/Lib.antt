@@ -3,3 +3,4 @@ pub mod Put
 pub mod Writers
 pub mod Bodies
 pub mod Alike
+pub mod Settles

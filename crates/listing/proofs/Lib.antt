@@ -1,0 +1,3 @@
+-- The laws of the listing queries.
+pub mod Outputs
+pub mod Listed

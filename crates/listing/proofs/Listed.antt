@@ -1,0 +1,119 @@
+-- A listing query: no mesh; refused by its checks; the list given out.
+use mathlib.Core.Path.{_≡_, refl, sym, ap, _∙_}
+use mathlib.Core.Bool.{Bool, true, false, cond}
+use mathlib.Core.List.{List, [], _∷_, _++_}
+use Prim.Native.Nat.{ℕ, _+_, _<_, _≤_}
+use native.Mathlib.Decide.{decLt}
+use native.Mathlib.Omega.{arith}
+use borrow.Author.Tests.{lt-ltb, le-ltb, ne-eqb}
+use lib.Dec.{eqb, ltb}
+use lib.ListN.{getD, length, drop, take}
+use Rattle.lists.specs.Lists.{listOf}
+use Rattle.lists.specs.Filled.{Filled, Copied}
+use Rattle.lists.proofs.Bools.{clash}
+use Rattle.lists.proofs.Fill.{filled-take, listOf-take}
+use Rattle.store.specs.declared.Caps.{Caps}
+use Rattle.store.specs.declared.Opened.the-variants.{Mesh, Nothing}
+use Rattle.store.specs.Slots.{isMesh}
+use Rattle.store.specs.Open.{opened}
+use Rattle.map.specs.Cells.{Map}
+use Rattle.map.specs.Answers.{Check, Answer, _when_, answer, listAnswer, listed}
+use Rattle.map.specs.Paper.{numberOf, given, refused, valueSays, verdictSays}
+use Rattle.map.specs.declared.Refusal.{Refusal}
+use Rattle.map.specs.declared.Refusal.the-variants.{NotMesh, OutputShort}
+use Rattle.map.specs.declared.Value.{Value}
+use Rattle.map.specs.declared.Value.the-variants as Val
+use Rattle.map.specs.declared.Verdict.{Verdict}
+use Rattle.map.specs.declared.Verdict.the-variants.{Accepted, Refused}
+use Rattle.picture.specs.State.{capsOf}
+use Rattle.picture.specs.Picture.{Wf}
+use Rattle.checks.specs.Checked.{Checked}
+use Rattle.checks.proofs.Values.{Numbered, number-some, refused-more, given-more}
+use Rattle.map.specs.Stars.{star}
+use Rattle.map.specs.Answers.{starChecks}
+use Rattle.picture.specs.State.{State, stateOf}
+use Rattle.picture.proofs.Settles.{wf-pic, wf-settled, wf-map}
+use Rattle.star.specs.Listed.{Gives, AtMark}
+use Rattle.checks.proofs.Rows.{marks-of}
+use Rattle.checks.proofs.Passed.{star-passed}
+use Rattle.checks.proofs.Opens.{nothing-opened, mesh-opened, wf-mesh, wf-caps}
+use Rattle.listing.specs.Listing.{Listing, Given}
+
+-- a refused answer lists nothing
+listed-refused : (a : Answer) (why : Refusal) (l o : List ℕ) → refused why ≡ a → o ≡ listed a l o
+unfolding listed refused
+listed-refused a why l o e = rw (← e, ne-eqb (numberOf why) 0 (λ z. omega (arith, number-some why)))
+
+module _ (w : List ℕ) (checks : Map → List Check) (list : Map → List ℕ) (o : List ℕ) where
+  pub listing-none : Nothing ≡ opened w → Listing w checks list o (Val.Refused NotMesh) o
+  listing-none e = record
+      { refused = λ _. refl
+      ; kept = λ why q. refl
+      ; answers = λ m wf. absurd (clash (wf-mesh w m wf) (nothing-opened w e))
+      }
+
+  module _ (caps : Caps) (opens : Mesh caps ≡ opened w) (verdict : Verdict) (checked : Checked w caps checks verdict) where
+    pub listing-refused : (why : Refusal) → verdict ≡ Refused why → Listing w checks list o (Val.Refused why) o
+    unfolding listAnswer verdictSays valueSays
+    listing-refused why v = record
+        { refused = λ none. absurd (clash (mesh-opened w caps opens .0) none)
+        ; kept = λ other q. refl
+        ; answers = λ m wf.
+            let a = refused-more (checks m) ((12 when ltb (length o) (length (list m))) ∷ []) why (length (list m) ∷ [])
+                  (ap verdictSays (sym v) ∙ checked .says m (wf-caps w m wf caps opens) wf) in
+            (a, listed-refused (answer (checks m ++ ((12 when ltb (length o) (length (list m))) ∷ [])) (length (list m) ∷ [])) why (list m) o a)
+        }
+
+    module _ (v : verdict ≡ Accepted) (numbered : (m : Map) → Numbered (checks m)) (zeros from : List ℕ) (n : ℕ) (room : n ≤ length zeros)
+        (lists : (m : Map) → capsOf m ≡ caps → Wf w m → Copied (list m) zeros n from) where
+      -- the first n numbers are the list
+      whole : (m : Map) → capsOf m ≡ caps → Wf w m → (n ≡ length (list m)) × (listOf n (λ i. getD from i 0) ≡ list m)
+      whole m e wf =
+          let c = lists m e wf in
+          ( c .count
+          , listOf-take from n (omega (arith, c .filled .size))
+          ∙ rw (c .count) (filled-take (list m) zeros from (c .filled) (omega (arith, c .count))))
+
+      behind : (m : Map) → Wf w m
+          → answer ((12 when ltb (length o) (length (list m))) ∷ []) (length (list m) ∷ []) ≡ listAnswer (checks m) (list m) (length o)
+      unfolding listAnswer verdictSays
+      behind m wf =
+          given-more (checks m) ((12 when ltb (length o) (length (list m))) ∷ []) (length (list m) ∷ []) (numbered m)
+          (ap verdictSays (sym v) ∙ checked .says m (wf-caps w m wf caps opens) wf)
+
+      pub listing-given : (r : Value) (o′ : List ℕ) → Given from n o r o′ → Listing w checks list o r o′
+      unfolding _when_ answer valueSays refused given listed
+      listing-given r o′ g = record
+          { refused = λ none. absurd (clash (mesh-opened w caps opens .0) none)
+          ; kept = λ why q. keeps why q (decLt (length o) n)
+          ; answers = λ m wf. gives m wf (decLt (length o) n)
+          }
+        where
+          never : (why : Refusal) → Val.Is n ≡ Val.Refused why → ⊥
+          never why e = let z : _≡_ {A = ℕ} 0 1 = cc in omega arith
+          keeps : (why : Refusal) → r ≡ Val.Refused why → Dec (length o < n) → o′ ≡ o
+          keeps why q (yes h) = g .short h .1
+          keeps why q (no f) = absurd (never why (sym (g .fits (omega arith) .0) ∙ q))
+          gives : (m : Map) → Wf w m → Dec (length o < n)
+            → (valueSays r ≡ listAnswer (checks m) (list m) (length o)) × (o′ ≡ listed (listAnswer (checks m) (list m) (length o)) (list m) o)
+          gives m wf (yes h) =
+              let p = whole m (wf-caps w m wf caps opens) wf in
+              let short : ltb (length o) (length (list m)) ≡ true = lt-ltb (length o) (length (list m)) (omega (arith, p .0)) in
+              rw (← behind m wf, short, g .short h .0, g .short h .1) (refl, refl)
+          gives m wf (no f) =
+              let p = whole m (wf-caps w m wf caps opens) wf in
+              let fits : ltb (length o) (length (list m)) ≡ false = le-ltb (length o) (length (list m)) (omega (arith, p .0)) in
+              rw (← behind m wf, fits, g .fits (omega arith) .0, g .fits (omega arith) .1, p .1, p .0) (refl, refl)
+
+-- what a reader gives on the state of a map
+pub gives-list : (w : List ℕ) (caps : Caps) (most : ℕ) (ok : State → Type 0) (list : Map → List ℕ) (o o′ : List ℕ) (r : ℕ) → Gives w caps most ok list o r o′
+    → (m : Map) (e : capsOf m ≡ caps) (wf : Wf w m) → ok (stateOf m) → Copied (list m) o r o′
+gives-list w caps most ok list o o′ r g m e wf k = rw (wf-map w caps m e wf) at (g .gives (stateOf m) (wf-pic w caps m e wf) k)
+
+-- the star of a mark that passed its checks
+pub star-lists : (w : List ℕ) (caps : Caps) (d v : ℕ) (verdict : Verdict) → Checked w caps (λ m. starChecks m d v) verdict → verdict ≡ Accepted
+    → (zeros from : List ℕ) (n : ℕ) → Gives w caps 128 (AtMark caps v) (λ m. star m d v) zeros n from
+    → (m : Map) → capsOf m ≡ caps → Wf w m → Copied (star m d v) zeros n from
+star-lists w caps d v verdict k a zeros from n g m e wf =
+    gives-list w caps 128 (AtMark caps v) (λ m. star m d v) zeros from n g m e wf
+    (record { ready = wf-settled w caps m e wf .ready; mark = omega (arith, star-passed w caps verdict a m e wf d v k .2, marks-of caps m e) })

@@ -1,0 +1,28 @@
+-- What a listing query promises: memory that is no mesh is refused with 14; a refusal changes no place of the output, on any memory; on
+-- well-formed memory the answer is the definition's, and a list that fits changes only its first places.
+use mathlib.Core.Path.{_≡_}
+use mathlib.Core.Bool.{false}
+use mathlib.Core.List.{List, _++_}
+use Prim.Native.Nat.{ℕ, _<_, _≤_}
+use lib.ListN.{getD, length, drop}
+use Rattle.lists.specs.Lists.{listOf}
+use Rattle.store.specs.Slots.{isMesh}
+use Rattle.map.specs.Cells.{Map}
+use Rattle.map.specs.Answers.{Check, listAnswer, listed}
+use Rattle.map.specs.Paper.{valueSays}
+use Rattle.map.specs.declared.Refusal.{Refusal}
+use Rattle.map.specs.declared.Refusal.the-variants.{NotMesh, OutputShort}
+use Rattle.map.specs.declared.Value.{Value}
+use Rattle.map.specs.declared.Value.the-variants.{Is, Refused}
+use Rattle.picture.specs.Picture.{Wf}
+
+pub record Listing (w : List ℕ) (checks : Map → List Check) (list : Map → List ℕ) (o : List ℕ) (r : Value) (o′ : List ℕ) : Type 0 where
+  pub refused : isMesh w ≡ false → r ≡ Refused NotMesh
+  pub kept : (why : Refusal) → r ≡ Refused why → o′ ≡ o
+  pub answers : (m : Map) → Wf w m
+    → (valueSays r ≡ listAnswer (checks m) (list m) (length o)) × (o′ ≡ listed (listAnswer (checks m) (list m) (length o)) (list m) o)
+
+-- the first n numbers of a list given out, or 12 where the output is shorter
+pub record Given (from : List ℕ) (n : ℕ) (o : List ℕ) (r : Value) (o′ : List ℕ) : Type 0 where
+  pub short : length o < n → (r ≡ Refused OutputShort) × (o′ ≡ o)
+  pub fits : n ≤ length o → (r ≡ Is n) × (o′ ≡ listOf n (λ i. getD from i 0) ++ drop n o)
