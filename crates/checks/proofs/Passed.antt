@@ -6,13 +6,15 @@ use Prim.Native.Nat.{ℕ, _<_, _≤_}
 use native.Mathlib.Omega.{arith}
 use borrow.Author.Tests.{leb-false, ltb-false, not-true, not-false, eqb-false}
 use lib.Dec.{leb, ltb, eqb}
-use Rattle.lists.specs.Lists.{all}
+use lib.ListN.{getD, length}
+use Rattle.lists.specs.Lists.{any, all, repeats}
+use Rattle.lists.proofs.Members.{at-has}
 use Rattle.lists.proofs.Bools.{and-left, and-right}
-use Rattle.lists.proofs.Counts.{neither}
+use Rattle.lists.proofs.Counts.{neither, none-has}
 use Rattle.shapes.specs.Shapes.{shape, facetCount}
 use Rattle.store.specs.declared.Caps.{Caps}
 use Rattle.map.specs.Cells.{Map, live}
-use Rattle.map.specs.Answers.{Check, _when_, answer, cellChecks, halfChecks, starChecks, typeChecks}
+use Rattle.map.specs.Answers.{Check, _when_, answer, cellChecks, halfChecks, starChecks, setChecks, typeChecks}
 use Rattle.map.specs.Paper.{given, verdictSays}
 use Rattle.map.specs.declared.Verdict.{Verdict}
 use Rattle.map.specs.declared.Verdict.the-variants.{Accepted}
@@ -37,6 +39,10 @@ star-numbered m d v = refl
 pub type-numbered : (t : ℕ) → Numbered (typeChecks t)
 unfolding typeChecks _when_ all
 type-numbered t = refl
+
+pub set-numbered : (m : Map) (set : List ℕ) → Numbered (setChecks m set)
+unfolding setChecks _when_ all
+set-numbered m set = refl
 
 accepted : (w : List ℕ) (caps : Caps) (checks : Map → List Check) (r : Verdict) → Checked w caps checks r → r ≡ Accepted
     → (m : Map) → capsOf m ≡ caps → Wf w m → Numbered (checks m) → all (λ (c : Check). not (c .fails)) (checks m) ≡ true
@@ -77,3 +83,15 @@ module _ (w : List ℕ) (caps : Caps) (r : Verdict) (v : r ≡ Accepted) (m : Ma
   type-passed t k =
       let p = accepted w caps (λ m. typeChecks t) r k v m e wf (type-numbered t) in
       eqb-false (shape t .dimension) 0 (not-true (eqb (shape t .dimension) 0) (and-left (not (eqb (shape t .dimension) 0)) true p))
+
+  -- the set has a first mark, and it is of the mesh
+  pub set-passed : (set : List ℕ) → Checked w caps (λ m. setChecks m set) r → (0 < length set) × (getD set 0 0 < m .marks)
+  unfolding setChecks _when_ all
+  set-passed set k =
+      let p = accepted w caps (λ m. setChecks m set) r k v m e wf (set-numbered m set) in
+      let b = neither (ltb (length set) 1) (ltb 3 (length set)) (not-true (ltb (length set) 1 || ltb 3 (length set))
+            (and-left (not (ltb (length set) 1 || ltb 3 (length set))) (not (any (leb (m .marks)) set) && (not (repeats set) && true)) p)) in
+      let some : 0 < length set = ltb-false (length set) 1 (b .0) in
+      let q = and-right (not (ltb (length set) 1 || ltb 3 (length set))) (not (any (leb (m .marks)) set) && (not (repeats set) && true)) p in
+      let inside : any (leb (m .marks)) set ≡ false = not-true (any (leb (m .marks)) set) (and-left (not (any (leb (m .marks)) set)) (not (repeats set) && true) q) in
+      (some, leb-false (m .marks) (getD set 0 0) (none-has (leb (m .marks)) set inside (getD set 0 0) (at-has set 0 some)))

@@ -6,14 +6,15 @@ use Prim.Native.Nat.{ℕ, suc, _+_, _<_, _≤_}
 use native.Mathlib.Omega.{arith}
 use borrow.Author.Tests.{le-leb, lt-leb, lt-ltb, le-ltb, eq-eqb, ne-eqb}
 use lib.Dec.{leb, ltb, eqb}
-use lib.ListN.{getD}
+use lib.ListN.{getD, length}
+use Rattle.lists.specs.Lists.{any, repeats}
 use Rattle.shapes.specs.Shapes.{shape, facetCount}
 use Rattle.store.specs.declared.Caps.{Caps}
 use Rattle.store.specs.Layout.{cellAt, Cell, address}
 use Rattle.map.specs.Cells.{Map, live}
-use Rattle.map.specs.Answers.{Check, _when_, answer, cellChecks, halfChecks, starChecks, typeChecks}
+use Rattle.map.specs.Answers.{Check, _when_, answer, cellChecks, halfChecks, starChecks, setChecks, typeChecks}
 use Rattle.map.specs.Paper.{numberOf, given, refused, verdictSays}
-use Rattle.map.specs.declared.Refusal.the-variants.{CellOutside, CellNotLive, TypeUnknown, MarkOutside, FacetOutside}
+use Rattle.map.specs.declared.Refusal.the-variants.{CellOutside, CellNotLive, TypeUnknown, CountWrong, MarkOutside, MarkTwice, FacetOutside}
 use Rattle.map.specs.declared.Verdict.the-variants.{Accepted, Refused}
 use Rattle.picture.specs.State.{capsOf, stateOf}
 use Rattle.picture.specs.Picture.{wordOf, cellWords, Wf}
@@ -107,3 +108,27 @@ module _ (w : List ℕ) (caps : Caps) (t n : ℕ) (kind : n ≡ shape t .dimensi
   pub type-good : (n ≡ 0 → ⊥) → Checked w caps (λ m. typeChecks t) Accepted
   unfolding typeChecks _when_ answer verdictSays given
   type-good ne = record { says = λ m e wf. rw (ne-eqb (shape t .dimension) 0 (λ z. ne (kind ∙ z))) }
+
+module _ (w : List ℕ) (caps : Caps) (set : List ℕ) where
+  pub set-none : length set < 1 → Checked w caps (λ m. setChecks m set) (Refused CountWrong)
+  unfolding setChecks _when_ answer verdictSays refused
+  set-none h = record { says = λ m e wf. rw (lt-ltb (length set) 1 h) }
+
+  module _ (some : 1 ≤ length set) where
+    pub set-many : 3 < length set → Checked w caps (λ m. setChecks m set) (Refused CountWrong)
+    unfolding setChecks _when_ answer verdictSays refused
+    set-many h = record { says = λ m e wf. rw (le-ltb (length set) 1 some, lt-ltb 3 (length set) h) }
+
+    module _ (few : length set ≤ 3) where
+      pub set-outside : any (leb (caps .marks)) set ≡ true → Checked w caps (λ m. setChecks m set) (Refused MarkOutside)
+      unfolding setChecks _when_ answer verdictSays refused
+      set-outside h = record { says = λ m e wf. rw (le-ltb (length set) 1 some, le-ltb 3 (length set) few, marks-of caps m e, h) }
+
+      module _ (inside : any (leb (caps .marks)) set ≡ false) where
+        pub set-twice : repeats set ≡ true → Checked w caps (λ m. setChecks m set) (Refused MarkTwice)
+        unfolding setChecks _when_ answer verdictSays refused
+        set-twice h = record { says = λ m e wf. rw (le-ltb (length set) 1 some, le-ltb 3 (length set) few, marks-of caps m e, inside, h) }
+
+        pub set-good : repeats set ≡ false → Checked w caps (λ m. setChecks m set) Accepted
+        unfolding setChecks _when_ answer verdictSays given
+        set-good h = record { says = λ m e wf. rw (le-ltb (length set) 1 some, le-ltb 3 (length set) few, marks-of caps m e, inside, h) }

@@ -6,6 +6,8 @@
 ghost use Rattle.map.specs.Answers.{cellChecks, halfChecks, starChecks, setChecks, typeChecks};
 ghost use Rattle.checks.specs.Checked.{Checked};
 
+use lists::reaches;
+use lists::repeats;
 use map::Refusal;
 use map::Verdict;
 use shapes::dimension;
@@ -65,6 +67,25 @@ pub fn check_type(w: &[u32], caps: Caps, t: u32) -> Verdict
 {
     if dimension(t) == 0 {
         return Verdict::Refused(Refusal::TypeUnknown);
+    }
+    Verdict::Accepted
+}
+
+// A set of marks: one to three, all of the mesh, none twice.
+pub fn check_set(w: &[u32], caps: Caps, set: &[u32]) -> Verdict
+    ensures { λ r. ⌜ Checked (now (w .entry)) caps (λ m. setChecks m (now (set .entry))) r ⌝ }
+{
+    if set.len() < 1 {
+        return Verdict::Refused(Refusal::CountWrong);
+    }
+    if 3 < set.len() {
+        return Verdict::Refused(Refusal::CountWrong);
+    }
+    if reaches(set, caps.marks) {
+        return Verdict::Refused(Refusal::MarkOutside);
+    }
+    if repeats(set) {
+        return Verdict::Refused(Refusal::MarkTwice);
     }
     Verdict::Accepted
 }

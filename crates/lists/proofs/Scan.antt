@@ -8,7 +8,7 @@ use native.Mathlib.Numerals.{add-one}
 use borrow.Author.Tests.{eq-eqb, ne-eqb}
 use lib.ListN.{length, getD, take, drop, length-drop, drop-of-length-le}
 use lib.Seq.{drop-cons, take-all}
-use Rattle.lists.specs.Lists.{has, all, repeats}
+use Rattle.lists.specs.Lists.{any, all, has, repeats}
 
 rest : (l : List ℕ) (i : ℕ) → i < length l → drop i l ≡ getD l i 0 ∷ drop (i + 1) l
 rest l i h = rw (add-one i) (drop-cons l i 0 h)
@@ -55,3 +55,16 @@ module _ (l : List ℕ) (i : ℕ) (same : repeats l ≡ repeats (drop i l)) wher
   pub repeats-end : length l ≤ i → false ≡ repeats l
   unfolding repeats
   repeats-end h = sym (same ∙ ap repeats (drop-of-length-le l {i = i} h))
+
+module _ (p : ℕ → Bool) (l : List ℕ) (i : ℕ) (same : any p l ≡ any p (drop i l)) where
+  pub any-stop : p (getD l i 0) ≡ true → i < length l → true ≡ any p l
+  unfolding any
+  any-stop e h = sym (same ∙ (ap (any p) (rest l i h) ∙ rw e))
+
+  pub any-go : p (getD l i 0) ≡ false → i < length l → any p l ≡ any p (drop (i + 1) l)
+  unfolding any
+  any-go e h = same ∙ (ap (any p) (rest l i h) ∙ rw e)
+
+  pub any-end : length l ≤ i → false ≡ any p l
+  unfolding any
+  any-end h = sym (same ∙ ap (any p) (drop-of-length-le l {i = i} h))

@@ -1,10 +1,11 @@
 // Lists of numbers, as slices of words.
 //
-// What is here: `has`, `subset`, `same_set` and `repeats` over slices. All are total. What is proved: each answer is that of
+// What is here: `has`, `subset`, `same_set`, `repeats` and `reaches` over slices. All are total. What is proved: each answer is that of
 // specs/Lists.antt, and proofs/ has the laws of those definitions: membership, equal sets, selections, ascending lists, cycles. What a
 // caller should know: nothing is copied; each looks at every pair of numbers at most.
 ghost use mathlib.Core.Path.{_≡_};
-ghost use Rattle.lists.specs.Lists.{has, all, sameSet, repeats};
+ghost use Rattle.lists.specs.Lists.{has, any, all, sameSet, repeats};
+ghost use lib.Dec.{leb};
 
 // v is in the list.
 pub fn has(l: &[u32], v: u32) -> bool
@@ -55,6 +56,20 @@ pub fn repeats(l: &[u32]) -> bool
             return true;
         }
         i = next;
+    }
+    false
+}
+
+// One of the list is n or more.
+pub fn reaches(l: &[u32], n: u32) -> bool
+    ensures { λ r. ⌜ r ≡ any (leb n) (now (l .entry)) ⌝ }
+{
+    let mut i = 0;
+    while i < l.len() {
+        if n <= l[i] {
+            return true;
+        }
+        i += 1;
     }
     false
 }
