@@ -20,7 +20,8 @@ use Rattle.picture.specs.Changes.{withAnc}
 use Rattle.picture.specs.Ready.{Ready, Settled}
 use Rattle.picture.proofs.Alike.{withAncs, pic-ancs, state-same}
 use Rattle.settle.specs.Settle.{among, settled}
-use Rattle.settle.proofs.Sibs.{Sibs, same-map}
+use Rattle.settle.specs.Sibs.{Sibs}
+use Rattle.settle.proofs.Sibs.{same-map}
 
 -- s′ is s with first anchors right, but for the marks that are left
 pub record Ancs (caps : Caps) (s s′ : State) (marks : List ℕ) : Type 0 where

@@ -17,14 +17,7 @@ use Rattle.laws.proofs.Halves.{half-live}
 use Rattle.picture.specs.State.{State, mapWith, stateOf}
 use Rattle.sibling.specs.Shared.{mended}
 use Rattle.settle.specs.Settle.{among, MaySettle}
-
--- s′ is s with siblings right, but for the sets that are left
-pub record Sibs (caps : Caps) (s s′ : State) (sets : List (List ℕ)) : Type 0 where
-  pub at : s′ .at ≡ s .at
-  pub chain : s′ .chain ≡ s .chain
-  pub anc : s′ .anc ≡ s .anc
-  pub count : s′ .count ≡ s .count
-  pub right : (h : ℕ) → among (mapWith caps s) sets h ≡ false → s′ .sib h ≡ stateOf (mapWith caps s) .sib h
+use Rattle.settle.specs.Sibs.{Sibs}
 
 module _ (caps : Caps) (s : State) where
   pub same-map : (s′ : State) → s′ .at ≡ s .at → mapWith caps s′ ≡ mapWith caps s

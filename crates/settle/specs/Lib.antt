@@ -1,1 +1,4 @@
 pub mod Settle
+pub mod Sets
+pub mod Sibs
+pub mod Mended

@@ -1,1 +1,63 @@
-// settle
+// After a cell has come or gone, what is around it is settled.
+//
+// What is here: `mend_all` mends the siblings of the sets of the cell's facets. It is total on any memory. What is proved: nothing beyond
+// the room changes; on the picture of a state that may settle (specs/Settle.antt) all siblings are right afterwards. What a caller should
+// know: the cell is given by its type and marks, for it may be gone.
+ghost use mathlib.Core.Path.{_≡_};
+ghost use mathlib.Core.List.{[]};
+ghost use Prim.Native.Nat.{min};
+ghost use Rattle.lists.specs.Filled.{Copied};
+ghost use Rattle.picture.specs.Step.{Step};
+ghost use Rattle.sibling.specs.Shared.{MayMend, mended};
+ghost use Rattle.settle.specs.Sets.{setIn};
+ghost use Rattle.settle.specs.Mended.{Mends};
+
+use shapes::column;
+use shapes::facet_count;
+use sibling::mend;
+use store::Caps;
+use words::part;
+use words::put;
+use words::word;
+
+// A facet has four corners at most.
+fn four_at_most(n: u32) -> u32
+    ensures { λ r. ⌜ r ≡ min 4 n ⌝ }
+{
+    if 4 < n { 4 } else { n }
+}
+
+// The set of marks of a facet of the type, written to the first places of out; how many there are.
+fn facet_set(rows: &[[[u8; 5]; 6]; 5], t: u32, f: u32, marks: &[u32], out: &mut [u32]) -> u32
+    ensures { λ r. ⌜ Copied (setIn (now (rows .entry)) t f (now (marks .entry))) (now (out .entry)) r (now (out .exit)) ⌝ }
+{
+    let n = four_at_most(column(rows, t, f, 0));
+    let mut k: u32 = 0;
+    while k < n {
+        let next = k + 1;
+        put(out, k as usize, word(marks, column(rows, t, f, next) as usize));
+        k = next;
+    }
+    n
+}
+
+// One facet's set mended.
+fn mend_facet(w: &mut [u32], caps: Caps, rows: &[[[u8; 5]; 6]; 5], t: u32, f: u32, marks: &[u32])
+    ensures { λ _. ⌜ Step caps (now (w .entry)) (now (w .exit)) (MayMend caps (now (rows .entry)) (setIn (now (rows .entry)) t f (now (marks .entry)))) (mended caps (setIn (now (rows .entry)) t f (now (marks .entry)))) ⌝ }
+{
+    let mut set = [0u32; 4];
+    let n = facet_set(rows, t, f, marks, &mut set);
+    mend(w, caps, rows, part(&set, 0, n as usize));
+}
+
+// The sets of all facets mended.
+pub fn mend_all(w: &mut [u32], caps: Caps, rows: &[[[u8; 5]; 6]; 5], t: u32, marks: &[u32])
+    ensures { λ _. ⌜ Mends caps (now (rows .entry)) t (now (marks .entry)) (now (w .entry)) (now (w .exit)) [] ⌝ }
+{
+    let n = facet_count(t);
+    let mut f: u32 = 0;
+    while f < n {
+        mend_facet(w, caps, rows, t, f, marks);
+        f += 1;
+    }
+}

@@ -5,36 +5,25 @@ use Rattle.checks.proofs.Rows.{set-none, set-many, set-outside, set-twi
 use borrow.Author.Needs.{needs}
 use Rattle.checks.proofs.check_set.Statement.{statement}
 use Rattle.checks.proofs.check_set.Tie as tie
-use Rattle.checks.proofs.check_set.Reads as reads
-use Rattle.checks.proofs.check_set.Lts as lts
-use Rattle.lists.proofs.reaches.Reads as reaches-reads
-use Rattle.lists.proofs.repeats.Reads as repeats-reads
 
--- src/lib.rt:79:9
 returns : tie.Need-returns
 returns c = set-none _ _ _ (c .if1 .taken)
 
--- src/lib.rt:82:9
 returns-2 : tie.Need-returns-2
 returns-2 c = set-many _ _ _ (c .before .if1 .left) (c .if2 .taken)
 
--- src/lib.rt:84:8
 reaches-requires : tie.Need-reaches-requires
 reaches-requires c κs = search needs
 
--- src/lib.rt:85:9
 returns-3 : tie.Need-returns-3
 returns-3 c = set-outside _ _ _ (c .before .before .before .if1 .left) (c .before .before .if2 .left) (sym (c .before .reaches .ensures) ∙ c .if3 .taken)
 
--- src/lib.rt:87:8
 repeats-requires : tie.Need-repeats-requires
 repeats-requires c κs = search needs
 
--- src/lib.rt:88:9
 returns-4 : tie.Need-returns-4
 returns-4 c = set-twice _ _ _ (c .before .before .before .before .before .if1 .left) (c .before .before .before .before .if2 .left) (sym (c .before .before .before .reaches .ensures) ∙ c .before .before .if3 .left) (sym (c .before .repeats .ensures) ∙ c .if4 .taken)
 
--- src/lib.rt:75:1
 returns-5 : tie.Need-returns-5
 returns-5 c = set-good _ _ _ (c .before .before .before .before .before .if1 .left) (c .before .before .before .before .if2 .left) (sym (c .before .before .before .reaches .ensures) ∙ c .before .before .if3 .left) (sym (c .before .repeats .ensures) ∙ c .if4 .left)
 

@@ -1,0 +1,57 @@
+-- `settle::mend_all` meets its contract.
+use Prim.Native.Nat.{_-_, _≤_}
+use native.Mathlib.Omega.{arith}
+use lib.ListN.{drop}
+use Rattle.settle.specs.Settle.{setsOf}
+use Rattle.settle.specs.Mended.{Mends}
+use Rattle.settle.proofs.Mending.{mends-start, mends-more, mends-done}
+use borrow.Author.Needs.{needs}
+use Rattle.settle.proofs.mend_all.Statement.{statement}
+use Rattle.settle.proofs.mend_all.Tie as tie
+
+abbrev Inv-loop : tie.InvT-loop
+Inv-loop w₀ caps rows t marks n f₀ w f = (f ≤ n) × Mends caps rows t marks w₀ w (drop f (setsOf t marks))
+
+abbrev μ-loop : tie.MeasureT-loop
+μ-loop w₀ caps rows t marks n f₀ w f = n - f
+
+facet-count-requires : tie.Need-facet-count-requires Inv-loop μ-loop
+facet-count-requires c κs = search needs
+
+loop-holds : tie.Need-loop-holds Inv-loop μ-loop
+loop-holds c = (omega arith, mends-start _ _ _ _ _)
+
+mend-facet-requires : tie.Need-mend-facet-requires Inv-loop μ-loop
+mend-facet-requires c κs = search needs
+
+add-f : tie.Need-add-f Inv-loop μ-loop
+add-f c = search needs
+
+loop-less : tie.Need-loop-less Inv-loop μ-loop
+loop-less c = search needs
+
+loop-again : tie.Need-loop-again Inv-loop μ-loop
+loop-again c = 
+    ( omega arith
+    , mends-more _ _ _ _ _ _ _ (c .before .before .before .before .before .loop .f) (c .before .before .before .before .before .loop .inv .1) (omega (arith, c .before .before .before .before .before .before .facet-count .ensures)) (c .before .before .mend-facet .ensures))
+
+same-length : tie.Need-same-length Inv-loop μ-loop
+same-length c = search needs
+
+returns : tie.Need-returns Inv-loop μ-loop
+returns c = mends-done _ _ _ _ _ _ (c .before .loop .f) (c .before .loop .inv .1) (omega (arith, c .before .before .facet-count .ensures))
+
+pub mend-all-spec : {M : Type 1} → statement M
+mend-all-spec =
+    tie.close
+    (tie.spec
+    Inv-loop
+    μ-loop
+    facet-count-requires
+    loop-holds
+    mend-facet-requires
+    add-f
+    loop-less
+    loop-again
+    same-length
+    returns)
