@@ -6,15 +6,14 @@ use Prim.Native.Nat.{ℕ, zero, suc, _+_, _*_, _<_, _≤_}
 use native.Mathlib.Omega.{arith}
 use borrow.Author.Tests.{eq-eqb, ne-eqb}
 use lib.Dec.{eqb}
-use lib.ListN.{getD, length, take, drop, length-take, length-drop}
-use lib.Seq.{ext-getD, getD-take, getD-drop, length-take-le}
+use lib.ListN.{getD, length}
 use Rattle.lists.proofs.Bools.{clash}
 use Rattle.words.specs.Words.{partOf}
 use Rattle.words.proofs.Fits.{part-fits}
 use Rattle.shapes.specs.Shapes.{shape}
 use Rattle.store.specs.declared.Caps.{Caps}
 use Rattle.store.specs.declared.Opened.the-variants.{Mesh, Nothing}
-use Rattle.store.specs.Layout.{room, cellAt, Cell, address}
+use Rattle.store.specs.Layout.{cellAt}
 use Rattle.store.specs.Slots.{isMesh}
 use Rattle.store.specs.Open.{opened}
 use Rattle.map.specs.Cells.{Map}
@@ -24,10 +23,10 @@ use Rattle.map.specs.declared.Refusal.{Refusal}
 use Rattle.map.specs.declared.Verdict.{Verdict}
 use Rattle.map.specs.declared.Verdict.the-variants.{Accepted, Refused}
 use Rattle.picture.specs.State.{capsOf, stateOf}
-use Rattle.picture.specs.Picture.{wordOf, cellWords, corner, Wf}
+use Rattle.picture.specs.Picture.{Wf}
 use Rattle.chain.proofs.Readied.{four-marks}
-use Rattle.facet.specs.Facet.{cornerIn}
-use Rattle.sibling.proofs.OnPicture.{corner-read}
+use Rattle.sibling.proofs.Part.{marks-read}
+use Rattle.picture.proofs.Settles.{wf-pic}
 use Rattle.checks.specs.Checked.{Checked}
 use Rattle.checks.proofs.Rows.{marks-of, cells-of, code-of}
 use Rattle.checks.proofs.Values.{number-some, refused-values, given-values}
@@ -42,17 +41,6 @@ some-number why = ne-eqb (numberOf why) 0 (λ z. omega (arith, number-some why))
 -- no part
 part-zero : (w : List ℕ) → partOf w 0 0 ≡ []
 part-zero w = part-fits w 0 0 (omega arith)
-
-module _ (w : List ℕ) (caps : Caps) (m : Map) (e : capsOf m ≡ caps) (wf : Wf w m) (c : ℕ) where
-  record-fits : (n : ℕ) → c < m .cells → n ≤ 4 → cellAt (caps .marks) c + 1 + n ≤ length w
-  unfolding cellAt room capsOf
-  record-fits n hc hn = omega (arith, wf .picture .fits, marks-of caps m e, cells-of caps m e)
-
-  corner-is : (j : ℕ) → c < m .cells → j < 4 → getD w (cellAt (caps .marks) c + 1 + j) 0 ≡ getD (m .at c .marks) j 0
-  unfolding capsOf stateOf cornerIn
-  corner-is j hc hj =
-      let place : cellAt (caps .marks) c + 1 + j ≡ cellAt (m .marks) c + (1 + j) = omega (arith, ap (λ (k : ℕ). cellAt k c) (marks-of caps m e)) in
-      ap (λ (k : ℕ). getD w k 0) place ∙ corner-read w (capsOf m) (stateOf m) (wf .picture) c hc j hj
 
 module _ (w : List ℕ) (part : Map → List ℕ) where
   pub handed-none : Nothing ≡ opened w → (r : List ℕ) → r ≡ partOf w 0 0 → Handed w part r
@@ -76,24 +64,10 @@ module _ (w : List ℕ) (caps : Caps) (opens : Mesh caps ≡ opened w) (c : ℕ)
   module _ (v : verdict ≡ Accepted) where
     -- the corners of the record, as many as the type has marks
     corners : (m : Map) → capsOf m ≡ caps → Wf w m → partOf w (cellAt (caps .marks) c + 1) (length (m .at c .marks)) ≡ m .at c .marks
+    unfolding stateOf
     corners m e wf =
-        part-fits w (cellAt (caps .marks) c + 1) (length (m .at c .marks)) fits
-        ∙ ext-getD 0 (take (length (m .at c .marks)) (drop (cellAt (caps .marks) c + 1) w)) (m .at c .marks) size
-        (λ j h.
-          let less : j < length (m .at c .marks) = omega (arith, size) in
-          getD-take (length (m .at c .marks)) (drop (cellAt (caps .marks) c + 1) w) j 0 less
-          ∙ (getD-drop (cellAt (caps .marks) c + 1) w j 0 ∙ at j less))
-      where
-        below : c < m .cells
-        below = cell-passed w caps verdict v m e wf c checked .0
-        four : length (m .at c .marks) ≤ 4
-        four = omega (arith, wf .sound .fitting c, four-marks (m .at c .code))
-        fits : cellAt (caps .marks) c + 1 + length (m .at c .marks) ≤ length w
-        fits = record-fits w caps m e wf c (length (m .at c .marks)) below four
-        size : length (take (length (m .at c .marks)) (drop (cellAt (caps .marks) c + 1) w)) ≡ length (m .at c .marks)
-        size = length-take-le (length (m .at c .marks)) (drop (cellAt (caps .marks) c + 1) w) (omega (arith, length-drop (cellAt (caps .marks) c + 1) w, fits))
-        at : (j : ℕ) → j < length (m .at c .marks) → getD w (cellAt (caps .marks) c + 1 + j) 0 ≡ getD (m .at c .marks) j 0
-        at j h = corner-is w caps m e wf c j below (omega (arith, four))
+        marks-read w caps (stateOf m) (wf-pic w caps m e wf) c (omega (arith, cell-passed w caps verdict v m e wf c checked .0, cells-of caps m e))
+        (omega (arith, wf .sound .fitting c, four-marks (m .at c .code)))
 
     pub handed-marks : (t n : ℕ) → t ≡ getD w (cellAt (caps .marks) c + 0) 0 → n ≡ shape t .marks → (r : List ℕ)
         → r ≡ partOf w (cellAt (caps .marks) c + 1) n → Handed w (λ m. marksPart m c) r

@@ -17,13 +17,13 @@ use Rattle.chain.specs.Chain.{Linked}
 
 -- the cell c in all chains of these marks, or out of them
 unfoldable pub withLinks : State → ℕ → List ℕ → Bool → State
-withLinks s c marks on = record
-    { at = s .at
-    ; chain = λ u k. cond (eqb c k && has u marks) on (s .chain u k)
-    ; sib = s .sib
-    ; anc = s .anc
-    ; count = s .count
-    }
+withLinks s c marks on = record {
+  at = s .at;
+  chain = λ u k. cond (eqb c k && has u marks) on (s .chain u k);
+  sib = s .sib;
+  anc = s .anc;
+  count = s .count;
+}
 
 -- the cell, whose marks these are, may go into their chains
 pub record MayLink (caps : Caps) (c : ℕ) (marks : List ℕ) (s : State) : Type 0 where

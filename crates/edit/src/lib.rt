@@ -1,1 +1,59 @@
-// edit
+// The parts of an edit around one cell: in all chains of its marks, or out of them, and its siblings cleared.
+//
+// What is here: `link_all` puts a cell into the chains of its marks, `unlink_all` takes it out of them, `clear_siblings` writes 0 for
+// the siblings of its half-facets. All are total on any memory. What is proved: on the picture of a state that allows the step
+// (`MayLink`, `MayUnlink`) what is left is the picture of the state so changed, and on any memory nothing beyond the room changes; the
+// laws of a whole insertion and a whole removal are in proofs/Inserts.antt and proofs/Removes.antt. What a caller should know: only the
+// first four marks are read, and no type has more; the body is written before the chains, and taken after them.
+ghost use mathlib.Core.Bool.{true, false};
+ghost use Prim.Native.Nat.{_<_};
+ghost use Rattle.picture.specs.Step.{Step};
+ghost use Rattle.edit.specs.Edit.{withLinks, MayLink, MayUnlink};
+ghost use Rattle.edit.specs.Cleared.{cleared};
+use chain::splice;
+use chain::unsplice;
+use sibling::put_sibling;
+use store::Caps;
+use words::word;
+
+// The cell c, whose marks these are, put into the chain of each.
+pub fn link_all(w: &mut [u32], caps: Caps, c: u32, marks: &[u32])
+    ensures { λ _. ⌜ Step caps (now (w .entry)) (now (w .exit)) (MayLink caps c (now (marks .entry))) (λ s. withLinks s c (now (marks .entry)) true) ⌝ }
+{
+    let mut k: u32 = 0;
+    while k < 4 {
+        if marks.len() <= k as usize {
+            return;
+        }
+        splice(w, caps, word(marks, k as usize), k, c);
+        k += 1;
+    }
+}
+
+// The cell c, whose marks these are, taken out of the chain of each.
+pub fn unlink_all(w: &mut [u32], caps: Caps, c: u32, marks: &[u32])
+    ensures { λ _. ⌜ Step caps (now (w .entry)) (now (w .exit)) (MayUnlink caps c (now (marks .entry))) (λ s. withLinks s c (now (marks .entry)) false) ⌝ }
+{
+    let mut k: u32 = 0;
+    while k < 4 {
+        if marks.len() <= k as usize {
+            return;
+        }
+        unsplice(w, caps, word(marks, k as usize), k, c);
+        k += 1;
+    }
+}
+
+// The siblings of the half-facets of the cell c, cleared.
+pub fn clear_siblings(w: &mut [u32], caps: Caps, c: u32)
+    ensures { λ _. ⌜ Step caps (now (w .entry)) (now (w .exit)) (λ s. c < caps .cells) (λ s. cleared s c) ⌝ }
+{
+    if 65536 <= c {
+        return;
+    }
+    let half = 8 * c;
+    put_sibling(w, caps, half, 0);
+    put_sibling(w, caps, half + 1, 0);
+    put_sibling(w, caps, half + 2, 0);
+    put_sibling(w, caps, half + 3, 0);
+}

@@ -5,3 +5,4 @@ pub mod Along
 pub mod Written
 pub mod OneWord
 pub mod Mended
+pub mod Part

@@ -1,0 +1,3 @@
+-- The laws of admitting a cell.
+pub mod Alike
+pub mod Rows

@@ -1,0 +1,61 @@
+-- `admit::full_mark` meets its contract.
+use mathlib.Core.Path.{_≡_, refl, sym, ap, _∙_}
+use Prim.Native.Nat.{_-_, _≤_}
+use native.Mathlib.Omega.{arith}
+use lib.ListN.{length, drop}
+use Rattle.lists.specs.Lists.{any}
+use Rattle.lists.proofs.Scan.{any-stop, any-go, any-end}
+use Rattle.admit.specs.Admit.{fullIn}
+use Rattle.admit.proofs.Alike.{full-yes, full-no}
+use borrow.Author.Needs.{needs}
+use Rattle.admit.proofs.full_mark.Statement.{statement}
+use Rattle.admit.proofs.full_mark.Tie as tie
+
+abbrev Inv-loop : tie.InvT-loop
+Inv-loop w marks i₀ i = (i ≤ length marks) × (any (fullIn w) marks ≡ any (fullIn w) (drop i marks))
+
+abbrev μ-loop : tie.MeasureT-loop
+μ-loop w marks i₀ i = length marks - i
+
+loop-holds : tie.Need-loop-holds Inv-loop μ-loop
+loop-holds c = (search needs, refl)
+
+mul-mark-word : tie.Need-mul-mark-word Inv-loop μ-loop
+mul-mark-word c = search needs
+
+shared-slice-read-mark-word : tie.Need-shared-slice-read-mark-word Inv-loop μ-loop
+shared-slice-read-mark-word c = search needs
+
+mark-word-requires : tie.Need-mark-word-requires Inv-loop μ-loop
+mark-word-requires c κs = search needs
+
+returns : tie.Need-returns Inv-loop μ-loop
+returns c = any-stop _ _ (c .before .before .before .before .loop .i) (c .before .before .before .before .loop .inv .1) (full-yes _ _ _ (c .before .mark-word .ensures) (c .if1 .taken)) (omega arith)
+
+add-i : tie.Need-add-i Inv-loop μ-loop
+add-i c = search needs
+
+loop-less : tie.Need-loop-less Inv-loop μ-loop
+loop-less c = search needs
+
+loop-again : tie.Need-loop-again Inv-loop μ-loop
+loop-again c = (omega arith, any-go _ _ (c .before .before .before .before .loop .i) (c .before .before .before .before .loop .inv .1) (full-no _ _ _ (c .before .mark-word .ensures) (c .if1 .left)) (omega arith))
+
+returns-2 : tie.Need-returns-2 Inv-loop μ-loop
+returns-2 c = any-end _ _ (c .before .loop .i) (c .before .loop .inv .1) (omega arith)
+
+pub full-mark-spec : {M : Type 1} → statement M
+full-mark-spec =
+    tie.close
+    (tie.spec
+    Inv-loop
+    μ-loop
+    loop-holds
+    mul-mark-word
+    shared-slice-read-mark-word
+    mark-word-requires
+    returns
+    add-i
+    loop-less
+    loop-again
+    returns-2)

@@ -1,0 +1,103 @@
+// Whether a cell may be inserted: the eight checks, in the listed order.
+//
+// What is here: `check_insert`, and the two of its checks that look at other cells. They write nothing. What is proved: on well-formed
+// memory the verdict is that of the outline's row (`insertChecks`). What a caller should know: the cost follows the star of the first mark.
+ghost use mathlib.Core.Path.{_≡_};
+ghost use lib.ListN.{getD};
+ghost use Rattle.lists.specs.Lists.{any, listOf};
+ghost use Rattle.map.specs.Answers.{insertChecks};
+ghost use Rattle.checks.specs.Checked.{Checked};
+ghost use Rattle.admit.specs.Admit.{sameIn, fullIn, Same};
+
+use chain::gather;
+use lists::reaches;
+use lists::repeats;
+use lists::same_set;
+use map::Refusal;
+use map::Verdict;
+use shapes::dimension;
+use shapes::mark_count;
+use store::Caps;
+use store::cell_word;
+use store::mark_word;
+use words::part;
+use words::word;
+
+// The cell's record is of the type, with the same set of marks.
+fn same_record(w: &[u32], caps: Caps, t: u32, marks: &[u32], c: u32) -> bool
+    ensures { λ r. ⌜ r ≡ sameIn (now (w .entry)) caps t (now (marks .entry)) c ⌝ }
+{
+    if cell_word(w, caps, c, 0) != t {
+        return false;
+    }
+    let at = 16 + 8 * (caps.marks as usize) + 16 * (c as usize) + 1;
+    same_set(part(w, at, mark_count(t) as usize), marks)
+}
+
+// Whether one of the first n cells is of the type, with the same set of marks.
+fn one_same(w: &[u32], caps: Caps, t: u32, marks: &[u32], cells: &[u32], n: u32) -> bool
+    ensures { λ r. ⌜ r ≡ any (sameIn (now (w .entry)) caps t (now (marks .entry))) (listOf n (λ i. getD (now (cells .entry)) i 0)) ⌝ }
+{
+    let mut i: u32 = 0;
+    while i < n {
+        if same_record(w, caps, t, marks, word(cells, i as usize)) {
+            return true;
+        }
+        i += 1;
+    }
+    false
+}
+
+// Whether a live cell of that type has the same set of marks.
+pub fn same_cell(w: &[u32], caps: Caps, t: u32, marks: &[u32]) -> bool
+    ensures { λ r. ⌜ Same (now (w .entry)) caps t (now (marks .entry)) r ⌝ }
+{
+    let mut cells = [0u32; 128];
+    let n = gather(w, caps, word(marks, 0), &mut cells);
+    one_same(w, caps, t, marks, &cells, n)
+}
+
+// Whether one of the marks stands in 128 live cells already.
+pub fn full_mark(w: &[u32], marks: &[u32]) -> bool
+    ensures { λ r. ⌜ r ≡ any (fullIn (now (w .entry))) (now (marks .entry)) ⌝ }
+{
+    let mut i = 0;
+    while i < marks.len() {
+        if 128 <= mark_word(w, marks[i], 1) {
+            return true;
+        }
+        i += 1;
+    }
+    false
+}
+
+// The checks of an insert.
+pub fn check_insert(w: &[u32], caps: Caps, c: u32, t: u32, marks: &[u32]) -> Verdict
+    ensures { λ r. ⌜ Checked (now (w .entry)) caps (λ m. insertChecks m c t (now (marks .entry))) r ⌝ }
+{
+    if caps.cells <= c {
+        return Verdict::Refused(Refusal::CellOutside);
+    }
+    if cell_word(w, caps, c, 0) != 0 {
+        return Verdict::Refused(Refusal::CellLive);
+    }
+    if dimension(t) == 0 {
+        return Verdict::Refused(Refusal::TypeUnknown);
+    }
+    if marks.len() != mark_count(t) as usize {
+        return Verdict::Refused(Refusal::CountWrong);
+    }
+    if reaches(marks, caps.marks) {
+        return Verdict::Refused(Refusal::MarkOutside);
+    }
+    if repeats(marks) {
+        return Verdict::Refused(Refusal::MarkTwice);
+    }
+    if same_cell(w, caps, t, marks) {
+        return Verdict::Refused(Refusal::CellSame);
+    }
+    if full_mark(w, marks) {
+        return Verdict::Refused(Refusal::MarkFull);
+    }
+    Verdict::Accepted
+}

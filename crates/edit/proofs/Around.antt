@@ -1,0 +1,218 @@
+-- One cell comes or goes: the state around it may be settled, and settled and counted it is the state of the map then.
+use mathlib.Core.Path.{_≡_, refl, sym, ap, _∙_, subst, fun-ext}
+use mathlib.Core.Bool.{Bool, true, false, cond, _&&_}
+use mathlib.Core.List.{List, []}
+use Prim.Native.Nat.{ℕ, zero, suc, _/_, _%_, _<_, _≤_}
+use native.Mathlib.Decide.{ℕ-discrete}
+use native.Mathlib.Omega.{arith}
+use borrow.Author.Tests.{eq-eqb, ne-eqb, eqb-true, eqb-false, ltb-true, le-ltb}
+use lib.Dec.{eqb}
+use lib.ListN.{getD, length}
+use Rattle.lists.specs.Lists.{has, any, sameSet}
+use Rattle.lists.proofs.Bools.{clash, not-true-false}
+use Rattle.lists.proofs.Members.{at-any}
+use Rattle.lists.proofs.Sets.{same-refl}
+use Rattle.shapes.specs.Shapes.{shape, shapes, noShape}
+use Rattle.shapes.specs.Table.{table}
+use Rattle.store.specs.declared.Caps.{Caps}
+use Rattle.store.specs.Layout.{Slot, Head, Mark, Cell, Cold}
+use Rattle.map.specs.Cells.{Body, Map, holds, facetsAt, cellsOf}
+use Rattle.map.specs.Siblings.{isHalf, marksOf, sibling}
+use Rattle.map.specs.Sound.{Sound}
+use Rattle.laws.proofs.Local.{Apart, Free, OneMore, half-other, sibling-other, anchors-free, more-free, apart-back}
+use Rattle.laws.proofs.Counted.{more-type-other}
+use Rattle.laws.proofs.Halves.{none-facets}
+use Rattle.picture.specs.State.{State, next, capsOf, mapWith, stateOf}
+use Rattle.picture.specs.Picture.{chainOf, link, corner, linkWord, headWords, markWords, cellWords, wordOf, Pic, Wf}
+use Rattle.picture.specs.Changes.{withCount}
+use Rattle.picture.proofs.Put.{pic-same}
+use Rattle.picture.proofs.Alike.{state-same}
+use Rattle.sibling.proofs.OnPicture.{facets-four, facets-count}
+use Rattle.settle.specs.Settle.{setsOf, among, MaySettle, settled}
+use Rattle.edit.specs.Edit.{withLinks}
+
+-- a state with other counts
+abbrev pub withCounts : State → (ℕ → ℕ) → State
+withCounts s count = record { at = s .at; chain = s .chain; sib = s .sib; anc = s .anc; count = count }
+
+module _ (caps : Caps) (s : State) (count : ℕ → ℕ) (same : (t : ℕ) → 1 ≤ t → t ≤ 4 → s .count t ≡ count t) where
+  counts-words : (z : Slot) → wordOf caps s z ≡ wordOf caps (withCounts s count) z
+  unfolding wordOf headWords markWords cellWords link chainOf corner linkWord
+  counts-words (Mark v k) = refl
+  counts-words (Cell c k) = refl
+  counts-words (Cold c k) = refl
+  counts-words (Head k) = at k
+    where
+      at : (k : ℕ) → getD (headWords caps s) k 0 ≡ getD (headWords caps (withCounts s count)) k 0
+      at zero = refl
+      at (suc zero) = refl
+      at (suc (suc zero)) = refl
+      at (suc (suc (suc zero))) = refl
+      at (suc (suc (suc (suc zero)))) = refl
+      at (suc (suc (suc (suc (suc zero))))) = same 1 (omega arith) (omega arith)
+      at (suc (suc (suc (suc (suc (suc zero)))))) = same 2 (omega arith) (omega arith)
+      at (suc (suc (suc (suc (suc (suc (suc zero))))))) = same 3 (omega arith) (omega arith)
+      at (suc (suc (suc (suc (suc (suc (suc (suc zero)))))))) = same 4 (omega arith) (omega arith)
+      at (suc (suc (suc (suc (suc (suc (suc (suc (suc k))))))))) = refl
+
+  -- counts are stored for the types 1 to 4
+  pub pic-counts : (w : List ℕ) → Pic w caps s → Pic w caps (withCounts s count)
+  pic-counts w p = pic-same w caps s (withCounts s count) (λ z h. counts-words z) p
+
+-- and the codes of the table are these
+pub typed-four : (t : ℕ) → 0 < shape t .dimension → (1 ≤ t) × (t ≤ 4)
+unfolding shape shapes noShape
+typed-four zero l = absurd (omega arith)
+typed-four (suc zero) l = (omega arith, omega arith)
+typed-four (suc (suc zero)) l = (omega arith, omega arith)
+typed-four (suc (suc (suc zero))) l = (omega arith, omega arith)
+typed-four (suc (suc (suc (suc zero)))) l = (omega arith, omega arith)
+typed-four (suc (suc (suc (suc (suc t))))) l = absurd (omega arith)
+
+-- from m to m′ a cell of type t on these marks, under the number c, comes or goes
+pub record Turn (m m′ : Map) (c t : ℕ) (marks : List ℕ) : Type 0 where
+  pub sound : Sound m′
+  pub apart : Apart m m′ c
+  pub count : length marks ≡ shape t .marks
+  pub inside : (v : ℕ) → has v marks ≡ true → v < m′ .marks
+  pub free : (v : ℕ) → has v marks ≡ false → Free m m′ c v
+  pub facets : (p : List ℕ → Bool) → any p (setsOf t marks) ≡ false → (any p (facetsAt m c) ≡ false) × (any p (facetsAt m′ c) ≡ false)
+  pub others : (u : ℕ) → 0 < u → (u ≡ t → ⊥) → cellsOf m′ u ≡ cellsOf m u
+
+module _ (m m′ : Map) (c : ℕ) (x : Body) (r : OneMore m m′ c x) where
+  -- the cell that is more has the facets, the other map none there
+  more-facets : (p : List ℕ → Bool) → any p (setsOf (x .code) (x .marks)) ≡ false
+      → (any p (facetsAt m c) ≡ false) × (any p (facetsAt m′ c) ≡ false)
+  unfolding any setsOf facetsAt
+  more-facets p e = (rw (none-facets m c (r .before)), rw (r .after) e)
+
+  -- and as many marks as its type says
+  more-count : length (x .marks) ≡ shape (x .code) .marks
+  more-count = rw (r .after) at (r .apart .fitting′ c)
+
+  -- marks of the mesh
+  more-inside : Sound m′ → (v : ℕ) → has v (x .marks) ≡ true → v < m′ .marks
+  unfolding holds
+  more-inside s v e = s .inside v c (rw (r .after) e)
+
+  -- a cell comes
+  pub turn-in : Sound m′ → Turn m m′ c (x .code) (x .marks)
+  turn-in s = record {
+    sound = s;
+    apart = r .apart;
+    count = more-count;
+    inside = more-inside s;
+    free = more-free m m′ c x r;
+    facets = more-facets;
+    others = more-type-other m m′ c x r;
+  }
+
+  -- a cell goes
+  pub turn-out : Sound m → Sound m′ → Turn m′ m c (x .code) (x .marks)
+  turn-out s s′ = record {
+    sound = s;
+    apart = apart-back m m′ c (r .apart);
+    count = more-count;
+    inside = λ v e. rw (r .apart .marks) at (more-inside s′ v e);
+    free = λ v e. let f = more-free m m′ c x r v e in (f .1, f .0);
+    facets = λ p e. let f = more-facets p e in (f .1, f .0);
+    others = λ u l n. sym (more-type-other m m′ c x r u l n);
+  }
+
+-- the cell is in the chains of its marks, or out of them
+pub links-hold : (m m′ : Map) (c : ℕ) (marks : List ℕ) (on : Bool) → Apart m m′ c → ((v : ℕ) → has v marks ≡ false → Free m m′ c v)
+    → ((v : ℕ) → has v marks ≡ true → has v (m′ .at c .marks) ≡ on)
+    → (s : State) → ((v k : ℕ) → s .chain v k ≡ holds m v k) → (v k : ℕ) → withLinks s c marks on .chain v k ≡ holds m′ v k
+unfolding withLinks holds
+links-hold m m′ c marks on a free held s chains v k = go (eqb c k) refl (has v marks) refl
+  where
+    go : (b : Bool) → eqb c k ≡ b → (h : Bool) → has v marks ≡ h → cond (b && h) on (s .chain v k) ≡ has v (m′ .at k .marks)
+    go true e true h = rw (← eqb-true c k e) (sym (held v h))
+    go true e false h = chains v k ∙ rw (← eqb-true c k e) (free v h .0 ∙ sym (free v h .1))
+    go false e h q = chains v k ∙ rw (a .other k (λ z. eqb-false c k e (sym z)))
+
+-- the state of m, with the cells and chains of m′ and no sibling of the cell
+pub record Around (caps : Caps) (m : Map) (c : ℕ) (s : State) : Type 0 where
+  pub chains : (v k : ℕ) → s .chain v k ≡ holds (mapWith caps s) v k
+  pub own : (h : ℕ) → h / 8 ≡ c → s .sib h ≡ 0
+  pub other : (h : ℕ) → (h / 8 ≡ c → ⊥) → s .sib h ≡ stateOf m .sib h
+  pub ancs : (d v : ℕ) → s .anc d v ≡ stateOf m .anc d v
+  pub counts : (u : ℕ) → s .count u ≡ stateOf m .count u
+
+-- what is no half-facet has no sibling: a cell with no facets has none, and no cell has more than four
+module _ (m : Map) (h : ℕ) where
+  pub no-sib : facetsAt m (h / 8) ≡ [] → stateOf m .sib h ≡ 0
+  unfolding stateOf isHalf
+  no-sib e = rw (e, le-ltb (h % 8) 0 (omega arith))
+
+  pub past-sib : 4 ≤ h % 8 → stateOf m .sib h ≡ 0
+  unfolding stateOf isHalf
+  past-sib l =
+      rw (le-ltb (h % 8) (length (facetsAt m (h / 8))) (omega (arith, facets-count m (h / 8), facets-four (m .at (h / 8) .code))))
+
+module _ (m m′ : Map) (c t : ℕ) (marks : List ℕ) (r : Turn m m′ c t marks) (h : ℕ) (e : among m′ (setsOf t marks) h ≡ false) where
+  -- the set of a half-facet is none of the sets
+  out-of-sets : isHalf m′ h ≡ true → any (sameSet (marksOf m′ h)) (setsOf t marks) ≡ false
+  unfolding among
+  out-of-sets half = rw half at e
+
+  -- so it is no half-facet of the cell
+  not-own : h / 8 ≡ c → stateOf m′ .sib h ≡ 0
+  unfolding stateOf isHalf marksOf
+  not-own q = rw (not-true-false (isHalf m′ h) (λ half. clash (there half) (r .facets _ (out-of-sets half) .1)))
+    where
+      there : isHalf m′ h ≡ true → any (sameSet (marksOf m′ h)) (facetsAt m′ c) ≡ true
+      there half =
+          subst (λ (k : ℕ). any (sameSet (marksOf m′ h)) (facetsAt m′ k) ≡ true) q
+          (at-any (sameSet (marksOf m′ h)) (facetsAt m′ (h / 8)) [] (h % 8) (ltb-true _ _ half) (same-refl (marksOf m′ h)))
+
+  -- and one of another cell keeps its sibling
+  kept-sib : (h / 8 ≡ c → ⊥) → stateOf m .sib h ≡ stateOf m′ .sib h
+  unfolding stateOf
+  kept-sib n = rw (same .0) (go (isHalf m h) refl)
+    where
+      same : (isHalf m′ h ≡ isHalf m h) × (marksOf m′ h ≡ marksOf m h)
+      same = half-other m m′ c (r .apart) h n
+
+      go : (b : Bool) → isHalf m h ≡ b → cond b (sibling m h) 0 ≡ cond b (sibling m′ h) 0
+      go true q =
+          let none = r .facets _ (rw (same .1) at (out-of-sets (same .0 ∙ q))) in
+          sym (sibling-other m m′ c (r .apart) h n (none .0) (none .1) .0)
+      go false q = refl
+
+module _ (caps : Caps) (m : Map) (c t : ℕ) (marks : List ℕ) (s : State) (r : Turn m (mapWith caps s) c t marks) (a : Around caps m c s) where
+  pub around-settle : MaySettle caps table t marks s
+  unfolding stateOf mapWith
+  around-settle = record {
+    ready = record { sound = r .sound; chains = a .chains };
+    types = refl;
+    count = r .count;
+    inside = r .inside;
+    sibs = λ h e. sib h e (ℕ-discrete (h / 8) c);
+    ancs = λ d v e. a .ancs d v ∙ ap next (sym (anchors-free m (mapWith caps s) c (r .apart) v (r .free v e) d));
+  }
+    where
+      sib : (h : ℕ) → among (mapWith caps s) (setsOf t marks) h ≡ false → Dec (h / 8 ≡ c) → s .sib h ≡ stateOf (mapWith caps s) .sib h
+      sib h e (yes q) = a .own h q ∙ sym (not-own m (mapWith caps s) c t marks r h e q)
+      sib h e (no n) = a .other h n ∙ kept-sib m (mapWith caps s) c t marks r h e n
+
+  pub around-wf : (w : List ℕ) → Pic w caps (withCount (settled caps s) t (length (cellsOf (mapWith caps s) t))) → Wf w (mapWith caps s)
+  unfolding withCount settled stateOf mapWith capsOf
+  around-wf w p = record { sound = r .sound; picture = subst (Pic w caps) fields (pic-counts caps counted (stateOf m′ .count) agree w p) }
+    where
+      m′ : Map
+      m′ = mapWith caps s
+
+      counted : State
+      counted = withCount (settled caps s) t (length (cellsOf m′ t))
+
+      agree : (u : ℕ) → 1 ≤ u → u ≤ 4 → counted .count u ≡ stateOf m′ .count u
+      agree u lo hi = go (ℕ-discrete t u)
+        where
+          go : Dec (t ≡ u) → counted .count u ≡ stateOf m′ .count u
+          go (yes q) = rw (← q, eq-eqb t t refl)
+          go (no n) = rw (ne-eqb t u n) (a .counts u ∙ ap length (sym (r .others u lo (λ z. n (sym z)))))
+
+      fields : withCounts counted (stateOf m′ .count) ≡ stateOf m′
+      fields =
+          state-same (withCounts counted (stateOf m′ .count)) (stateOf m′) refl (fun-ext (λ v. fun-ext (λ k. a .chains v k))) refl refl refl

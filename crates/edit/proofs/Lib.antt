@@ -1,0 +1,5 @@
+-- The laws that the layers above cite.
+pub mod Around
+pub mod Inserts
+pub mod Removes
+pub mod Chained
