@@ -1,1 +1,275 @@
-// The groups of a star.
+// The groups of a star, and their anchors.
+//
+// What is here: `shares` tells whether two cells share a facet, `anchors_of` lists the anchors of a mark in a dimension,
+// `first_anchor_of` gives the first of them as number + 1. All are total on any memory. What is proved: on the picture of a settled
+// state each answer is the definition's (specs/Group.antt says what of a state is asked). How: each cell of the star has a label;
+// two cells that share a facet get one label; then for each cell the anchor of its label's cells is sought. What a caller should
+// know: each pair of cells is looked at once at most; 128 words hold any answer; the table is handed down.
+ghost use mathlib.Core.Path.{_≡_};
+ghost use Prim.Native.Nat.{_+_, _*_, _<_};
+ghost use lib.Dec.{ltb};
+ghost use Rattle.lists.specs.Filled.{Copied};
+ghost use Rattle.map.specs.Cells.{shares};
+ghost use Rattle.map.specs.Stars.{anchors};
+ghost use Rattle.picture.specs.State.{next};
+ghost use Rattle.facet.specs.Facet.{facetIn, matchIn};
+ghost use Rattle.star.specs.Listed.{Gives, Tells, Reads};
+ghost use Rattle.group.specs.Group.{Pair, Around};
+ghost use Rattle.group.specs.Labels.{sharesIn, linkIn, Numbered, Relabelled, Merged, Labelled};
+ghost use Rattle.group.specs.Places.{borderIn, wantedIn, chosenIn, seekIn, placeIn, anchorsIn};
+use facet::copy_facet;
+use facet::facet_has;
+use facet::matching;
+use numbers::Cell;
+use numbers::half_of;
+use shapes::facet_count;
+use star::star_of;
+use store::Caps;
+use store::cell_word;
+use words::part;
+use words::put;
+use words::word;
+
+// Whether cell b has a facet with the marks of a facet of cell a.
+fn facet_shared(w: &[u32], caps: Caps, rows: &[[[u8; 5]; 6]; 5], a: u32, f: u32, b: u32) -> bool
+    ensures { λ r. ⌜ r ≡ ltb (matchIn (now (w .entry)) caps (now (rows .entry)) b (facetIn (now (w .entry)) caps (now (rows .entry)) a f)) 8 ⌝ }
+{
+    let mut marks = [0u32; 4];
+    let n = copy_facet(w, caps, rows, a, f, &mut marks);
+    matching(w, caps, rows, b, part(&marks, 0, n as usize)) < 8
+}
+
+// Whether two cells share a facet, by their records.
+fn sharing(w: &[u32], caps: Caps, rows: &[[[u8; 5]; 6]; 5], a: u32, b: u32) -> bool
+    ensures { λ r. ⌜ r ≡ sharesIn (now (w .entry)) caps (now (rows .entry)) a b ⌝ }
+{
+    let n = facet_count(cell_word(w, caps, a, 0));
+    let mut f: u32 = 0;
+    while f < n {
+        if facet_shared(w, caps, rows, a, f, b) {
+            return true;
+        }
+        f += 1;
+    }
+    false
+}
+
+// Whether two cells share a facet.
+pub fn shares(w: &[u32], caps: Caps, rows: &[[[u8; 5]; 6]; 5], a: u32, b: u32) -> bool
+    ensures { λ r. ⌜ Tells (now (w .entry)) caps (Pair caps (now (rows .entry)) a b) (λ m. shares m a b) r ⌝ }
+{
+    sharing(w, caps, rows, a, b)
+}
+
+// Each of the first n places gets a label of its own.
+fn number(lab: &mut [u32], n: u32)
+    ensures { λ _. ⌜ Numbered n (now (lab .entry)) (now (lab .exit)) ⌝ }
+{
+    let mut j: u32 = 0;
+    while j < n {
+        put(lab, j as usize, j);
+        j += 1;
+    }
+}
+
+// Of the first n places, those with one label get another.
+fn relabel(lab: &mut [u32], n: u32, old: u32, new: u32)
+    ensures { λ _. ⌜ Relabelled n old new (now (lab .entry)) (now (lab .exit)) ⌝ }
+{
+    let mut j: u32 = 0;
+    while j < n {
+        if word(lab, j as usize) == old {
+            put(lab, j as usize, new);
+        }
+        j += 1;
+    }
+}
+
+// Two places whose cells share a facet get one label; the pair's number is 128 times the one and the other.
+fn merge_pair(
+    w: &[u32],
+    caps: Caps,
+    rows: &[[[u8; 5]; 6]; 5],
+    cells: &[u32],
+    n: u32,
+    x: usize,
+    lab: &mut [u32],
+)
+    requires { ⌜ x < 128 * n ⌝ }
+    ensures { λ _. ⌜ Merged (linkIn (now (w .entry)) caps (now (rows .entry)) (now (cells .entry))) n x (x + 1) (now (lab .entry)) (now (lab .exit)) ⌝ }
+{
+    let a = x / 128;
+    let b = x % 128;
+    if a <= b {
+        return;
+    }
+    let one = word(lab, a);
+    let other = word(lab, b);
+    if one == other {
+        return;
+    }
+    if sharing(w, caps, rows, word(cells, a), word(cells, b)) {
+        relabel(lab, n, other, one);
+    }
+}
+
+// The labels of the first n cells: one for each group.
+fn labels(w: &[u32], caps: Caps, rows: &[[[u8; 5]; 6]; 5], cells: &[u32], n: u32, lab: &mut [u32])
+    ensures { λ _. ⌜ Labelled (linkIn (now (w .entry)) caps (now (rows .entry)) (now (cells .entry))) n (now (lab .entry)) (now (lab .exit)) ⌝ }
+{
+    number(lab, n);
+    let end = 128 * (n as usize);
+    let mut x: usize = 0;
+    while x < end {
+        merge_pair(w, caps, rows, cells, n, x, lab);
+        x += 1;
+    }
+}
+
+// Whether a half-facet is its own sibling, by its word.
+fn alone(w: &[u32], caps: Caps, c: u32, f: u32) -> bool
+    ensures { λ r. ⌜ r ≡ borderIn (now (w .entry)) caps c f ⌝ }
+{
+    let half = half_of(Cell(c), f);
+    cell_word(w, caps, c, 5 + f % 8) == half.0
+}
+
+// Whether the half-facet is a border, where only those are asked for.
+fn wanted(w: &[u32], caps: Caps, c: u32, f: u32, only: bool) -> bool
+    ensures { λ r. ⌜ r ≡ wantedIn (now (w .entry)) caps c f only ⌝ }
+{
+    if !only {
+        return true;
+    }
+    alone(w, caps, c, f)
+}
+
+// Whether the half-facet at a place is of the group of place i, is wanted and holds v.
+fn chosen(
+    w: &[u32],
+    caps: Caps,
+    rows: &[[[u8; 5]; 6]; 5],
+    v: u32,
+    cells: &[u32],
+    lab: &[u32],
+    i: u32,
+    only: bool,
+    x: u32,
+) -> bool
+    ensures { λ r. ⌜ r ≡ chosenIn (now (w .entry)) caps (now (rows .entry)) v (now (cells .entry)) (now (lab .entry)) i only x ⌝ }
+{
+    let j = (x / 8) as usize;
+    if word(lab, j) != word(lab, i as usize) {
+        return false;
+    }
+    let c = word(cells, j);
+    if !wanted(w, caps, c, x % 8, only) {
+        return false;
+    }
+    facet_has(w, caps, rows, c, x % 8, v)
+}
+
+// The first such place below end; end where there is none.
+fn seek(
+    w: &[u32],
+    caps: Caps,
+    rows: &[[[u8; 5]; 6]; 5],
+    v: u32,
+    cells: &[u32],
+    lab: &[u32],
+    end: u32,
+    i: u32,
+    only: bool,
+) -> u32
+    ensures { λ r. ⌜ r ≡ seekIn (now (w .entry)) caps (now (rows .entry)) v (now (cells .entry)) (now (lab .entry)) end i only ⌝ }
+{
+    let mut x: u32 = 0;
+    while x < end {
+        if chosen(w, caps, rows, v, cells, lab, i, only, x) {
+            return x;
+        }
+        x += 1;
+    }
+    end
+}
+
+// The place of the anchor of place i's group: the first border, or else the first of all.
+fn place(
+    w: &[u32],
+    caps: Caps,
+    rows: &[[[u8; 5]; 6]; 5],
+    v: u32,
+    cells: &[u32],
+    lab: &[u32],
+    end: u32,
+    i: u32,
+) -> u32
+    ensures { λ r. ⌜ r ≡ placeIn (now (w .entry)) caps (now (rows .entry)) v (now (cells .entry)) (now (lab .entry)) end i ⌝ }
+{
+    let x = seek(w, caps, rows, v, cells, lab, end, i, true);
+    if x < end {
+        x
+    } else {
+        seek(w, caps, rows, v, cells, lab, end, i, false)
+    }
+}
+
+// The anchors among the first n places, each at the place of its own cell, written to the first places of out; how many there are.
+fn list(
+    w: &[u32],
+    caps: Caps,
+    rows: &[[[u8; 5]; 6]; 5],
+    v: u32,
+    cells: &[u32],
+    lab: &[u32],
+    n: u32,
+    end: u32,
+    out: &mut [u32],
+) -> u32
+    ensures { λ r. ⌜ Copied (anchorsIn (placeIn (now (w .entry)) caps (now (rows .entry)) v (now (cells .entry)) (now (lab .entry)) end) (now (cells .entry)) n) (now (out .entry)) r (now (out .exit)) ⌝ }
+{
+    let mut k: u32 = 0;
+    let mut i: u32 = 0;
+    while i < n {
+        let x = place(w, caps, rows, v, cells, lab, end, i);
+        if x / 8 == i {
+            let half = half_of(Cell(word(cells, i as usize)), x % 8);
+            put(out, k as usize, half.0);
+            k += 1;
+        }
+        i += 1;
+    }
+    k
+}
+
+// The anchors of a mark in a dimension, ascending, written to the first places of out; how many there are.
+pub fn anchors_of(
+    w: &[u32],
+    caps: Caps,
+    rows: &[[[u8; 5]; 6]; 5],
+    d: u32,
+    v: u32,
+    out: &mut [u32],
+) -> u32
+    ensures { λ r. ⌜ Gives (now (w .entry)) caps 128 (Around caps (now (rows .entry)) v) (λ m. anchors m d v) (now (out .entry)) r (now (out .exit)) ⌝ }
+{
+    let mut cells = [0u32; 128];
+    let n = star_of(w, caps, d, v, &mut cells);
+    let mut lab = [0u32; 128];
+    labels(w, caps, rows, &cells, n, &mut lab);
+    list(w, caps, rows, v, &cells, &lab, n, 8 * n, out)
+}
+
+// The first anchor of a mark in a dimension as number + 1; 0 for none.
+pub fn first_anchor_of(w: &[u32], caps: Caps, rows: &[[[u8; 5]; 6]; 5], d: u32, v: u32) -> u32
+    ensures { λ r. ⌜ Reads (now (w .entry)) caps (Around caps (now (rows .entry)) v) (λ m. next (anchors m d v)) r ⌝ }
+{
+    let mut found = [0u32; 128];
+    let n = anchors_of(w, caps, rows, d, v, &mut found);
+    if n == 0 {
+        return 0;
+    }
+    // a larger number is no half-facet's
+    let h = word(&found, 0);
+    if h < 524288 { h + 1 } else { 0 }
+}

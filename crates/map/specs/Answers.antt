@@ -6,6 +6,7 @@ use lib.Dec.{eqb, leb, ltb}
 use lib.ListN.{length, take, drop}
 use Rattle.lists.specs.Lists.{any, repeats, sameSet}
 use Rattle.numbers.specs.Half.{halfOf}
+use Rattle.numbers.specs.Room.{room}
 use Rattle.shapes.specs.Shapes.{shape, facetCount}
 use Rattle.map.specs.Cells.{Map, live, cellsOf, neighbours}
 use Rattle.map.specs.Siblings.{sharers, sibling, cycle, border}
@@ -36,10 +37,6 @@ listAnswer checks l places = answer (checks ++ ((12 when ltb places (length l)) 
 -- "a list that fits changes only its first places"; a refusal changes nothing
 unfoldable pub listed : Answer → List ℕ → List ℕ → List ℕ
 listed a l out = cond (eqb (a .refusal) 0) (l ++ drop (length l) out) out
-
--- "room = 16 + 8 × marks + 32 × cells"
-unfoldable pub room : ℕ → ℕ → ℕ
-room marks cells = 16 + 8 * marks + 32 * cells
 
 -- "Format: 1, 2."
 unfoldable pub formatChecks : ℕ → ℕ → ℕ → List Check

@@ -1,5 +1,6 @@
 -- Where each record lies, by its number and the capacities alone.
-use Prim.Native.Nat.{ℕ, _+_, _*_, _<_, _≤_}
+use Prim.Native.Nat.{ℕ, _+_, _*_, _<_}
+unfoldable pub use Rattle.numbers.specs.Room.{room}
 
 -- the first word of a mesh
 unfoldable pub magic : ℕ
@@ -15,10 +16,6 @@ cellAt marks c = 16 + 8 * marks + 16 * c
 
 unfoldable pub coldAt : ℕ → ℕ → ℕ → ℕ
 coldAt marks cells c = 16 + 8 * marks + 16 * cells + 16 * c
-
--- "room = 16 + 8 × marks + 32 × cells"
-unfoldable pub room : ℕ → ℕ → ℕ
-room marks cells = 16 + 8 * marks + 32 * cells
 
 -- a word of the room: of the head, of a mark's record, of the two parts of a cell's
 pub data Slot : Type 0 where

@@ -1,0 +1,7 @@
+-- The laws that the layers above cite.
+pub mod Facets
+pub mod Merging
+pub mod Seeking
+pub mod Listing
+pub mod Grouped
+pub mod Anchored

@@ -1,0 +1,87 @@
+-- `group::list` meets its contract.
+use borrow.Author.Needs.{needs}
+use Prim.Native.Nat.{_-_, _≤_}
+use native.Mathlib.Omega.{arith}
+use mathlib.Core.Logic.{⊎-elim}
+use Rattle.lists.specs.Filled.{Copied}
+use Rattle.group.specs.Places.{placeIn, anchorsIn}
+use Rattle.group.proofs.Listing.{list-start, list-yes, list-no, list-end}
+use Rattle.group.proofs.list.Statement.{statement}
+use Rattle.group.proofs.list.Tie as tie
+
+abbrev Inv-loop : tie.InvT-loop
+Inv-loop w caps rows v cells lab n end out₀ k₀ i₀ out k i = (i ≤ n) × (k ≤ i) × Copied (anchorsIn (placeIn w caps rows v cells lab end) cells i) out₀ k out
+
+abbrev μ-loop : tie.MeasureT-loop
+μ-loop w caps rows v cells lab n end out₀ k₀ i₀ out k i = n - i
+
+loop-holds : tie.Need-loop-holds Inv-loop μ-loop
+loop-holds c = (omega arith, omega arith, list-start _ _ _)
+
+place-requires : tie.Need-place-requires Inv-loop μ-loop
+place-requires c κs = search needs
+
+cast-word : tie.Need-cast-word Inv-loop μ-loop
+cast-word c = search needs
+
+word-requires : tie.Need-word-requires Inv-loop μ-loop
+word-requires c κs = search needs
+
+half-of-requires : tie.Need-half-of-requires Inv-loop μ-loop
+half-of-requires c κs = search needs
+
+cast-put : tie.Need-cast-put Inv-loop μ-loop
+cast-put c = search needs
+
+put-requires : tie.Need-put-requires Inv-loop μ-loop
+put-requires c κs = search needs
+
+add-k : tie.Need-add-k Inv-loop μ-loop
+add-k c = search needs
+
+add-i : tie.Need-add-i Inv-loop μ-loop
+add-i c = search needs
+
+loop-less : tie.Need-loop-less Inv-loop μ-loop
+loop-less c = search needs
+
+loop-again : tie.Need-loop-again Inv-loop μ-loop
+loop-again c =
+    ⊎-elim
+    (λ w. (
+      omega arith,
+      omega (arith, w .8, c .before .before .before .loop .inv .1),
+      rw (w .8, w .7) (list-yes _ _ _ (c .before .before .before .loop .i) _ _ _ _ _ _ (c .before .before .before .loop .inv .2) (c .before .place .ensures) (w .0 .taken) (w .1 .ensures) (w .2 .ensures) (w .4 .ensures)),
+    ))
+    (λ w. (
+      omega arith,
+      omega (arith, w .2, c .before .before .before .loop .inv .1),
+      rw (w .2, w .1) (list-no _ _ _ (c .before .before .before .loop .i) _ _ _ (c .before .before .before .loop .inv .2) (c .before .place .ensures) (w .0 .left)),
+    ))
+    (c .if1 .came)
+
+same-length : tie.Need-same-length Inv-loop μ-loop
+same-length c = search needs
+
+returns : tie.Need-returns Inv-loop μ-loop
+returns c = list-end _ _ _ (c .before .loop .i) _ _ _ (c .before .loop .inv .2) (c .before .loop .inv .0) (omega arith)
+
+pub list-spec : {M : Type 1} → statement M
+list-spec =
+    tie.close
+    (tie.spec
+    Inv-loop
+    μ-loop
+    loop-holds
+    place-requires
+    cast-word
+    word-requires
+    half-of-requires
+    cast-put
+    put-requires
+    add-k
+    add-i
+    loop-less
+    loop-again
+    same-length
+    returns)

@@ -1,0 +1,53 @@
+-- `group::number` meets its contract.
+use borrow.Author.Needs.{needs}
+use Prim.Native.Nat.{_-_, _≤_}
+use native.Mathlib.Omega.{arith}
+use Rattle.group.specs.Labels.{Numbered}
+use Rattle.group.proofs.Merging.{number-start, number-more, number-end}
+use Rattle.group.proofs.number.Statement.{statement}
+use Rattle.group.proofs.number.Tie as tie
+
+abbrev Inv-loop : tie.InvT-loop
+Inv-loop lab₀ n j₀ lab j = (j ≤ n) × Numbered j lab₀ lab
+
+abbrev μ-loop : tie.MeasureT-loop
+μ-loop lab₀ n j₀ lab j = n - j
+
+loop-holds : tie.Need-loop-holds Inv-loop μ-loop
+loop-holds c = (omega arith, number-start _)
+
+cast-put : tie.Need-cast-put Inv-loop μ-loop
+cast-put c = search needs
+
+put-requires : tie.Need-put-requires Inv-loop μ-loop
+put-requires c κs = search needs
+
+add-j : tie.Need-add-j Inv-loop μ-loop
+add-j c = search needs
+
+loop-less : tie.Need-loop-less Inv-loop μ-loop
+loop-less c = search needs
+
+loop-again : tie.Need-loop-again Inv-loop μ-loop
+loop-again c = (omega arith, number-more _ _ _ _ (c .before .before .before .before .before .loop .inv .1) (c .before .before .put .ensures))
+
+same-length : tie.Need-same-length Inv-loop μ-loop
+same-length c = search needs
+
+returns : tie.Need-returns Inv-loop μ-loop
+returns c = number-end (c .before .loop .j) _ _ _ (c .before .loop .inv .1) (c .before .loop .inv .0) (omega arith)
+
+pub number-spec : {M : Type 1} → statement M
+number-spec =
+    tie.close
+    (tie.spec
+    Inv-loop
+    μ-loop
+    loop-holds
+    cast-put
+    put-requires
+    add-j
+    loop-less
+    loop-again
+    same-length
+    returns)

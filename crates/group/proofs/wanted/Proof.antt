@@ -1,0 +1,17 @@
+-- `group::wanted` meets its contract.
+use Rattle.group.proofs.Seeking.{wanted-any, wanted-border}
+use borrow.Author.Needs.{needs}
+use Rattle.group.proofs.wanted.Statement.{statement}
+use Rattle.group.proofs.wanted.Tie as tie
+
+returns : tie.Need-returns
+returns c = wanted-any _ _ _ _ _ (c .if1 .taken)
+
+alone-requires : tie.Need-alone-requires
+alone-requires c κs = search needs
+
+returns-2 : tie.Need-returns-2
+returns-2 c = wanted-border _ _ _ _ _ _ (c .before .if1 .left) (c .alone .ensures)
+
+pub wanted-spec : {M : Type 1} → statement M
+wanted-spec = tie.close (tie.spec returns alone-requires returns-2)

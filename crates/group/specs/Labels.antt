@@ -1,0 +1,60 @@
+-- Groups by labels: each place of a list of cells has a label, and two places have one label where links join them.
+use mathlib.Core.Path.{_≡_}
+use mathlib.Core.Bool.{Bool, true, false, cond, _||_}
+use mathlib.Core.List.{List}
+use Prim.Native.Nat.{ℕ, zero, suc, _/_, _%_, _<_, _≤_}
+use lib.Dec.{eqb, ltb}
+use lib.ListN.{getD, length}
+use Rattle.shapes.specs.Shapes.{facetCount}
+use Rattle.store.specs.declared.Caps.{Caps}
+use Rattle.facet.specs.Facet.{codeIn, facetIn, matchIn}
+
+-- one of the numbers below n passes
+unfoldable pub anyBelow : ℕ → (ℕ → Bool) → Bool
+anyBelow zero p = false
+anyBelow (suc n) p = p n || anyBelow n p
+
+-- two cells share a facet, by their records
+unfoldable pub sharesIn : List ℕ → Caps → List (List (List ℕ)) → ℕ → ℕ → Bool
+sharesIn w caps rows a b = anyBelow (facetCount (codeIn w caps a)) (λ f. ltb (matchIn w caps rows b (facetIn w caps rows a f)) 8)
+
+-- so two places of a list of cells are linked
+unfoldable pub linkIn : List ℕ → Caps → List (List (List ℕ)) → List ℕ → ℕ → ℕ → Bool
+linkIn w caps rows cells i j = sharesIn w caps rows (getD cells i 0) (getD cells j 0)
+
+-- each of the first n places has its own number as label
+pub record Numbered (n : ℕ) (l l′ : List ℕ) : Type 0 where
+  pub size : length l′ ≡ length l
+  pub own : n ≤ length l → (p : ℕ) → p < n → getD l′ p 0 ≡ p
+
+-- one label is replaced by another
+unfoldable pub renamed : ℕ → ℕ → ℕ → ℕ
+renamed old new x = cond (eqb x old) new x
+
+pub record Relabelled (n old new : ℕ) (l l′ : List ℕ) : Type 0 where
+  pub size : length l′ ≡ length l
+  pub each : n ≤ length l → (p : ℕ) → p < n → getD l′ p 0 ≡ renamed old new (getD l p 0)
+
+-- a relation of places that links make
+pub record Relates (link : ℕ → ℕ → Bool) (n : ℕ) (R : ℕ → ℕ → Bool) : Type 0 where
+  pub back : (p q : ℕ) → R p q ≡ true → R q p ≡ true
+  pub onward : (p q r : ℕ) → R p q ≡ true → R q r ≡ true → R p r ≡ true
+  pub links : (p q : ℕ) → p < n → q < n → link p q ≡ true → R p q ≡ true
+
+-- places with one label are related
+abbrev pub Within : ℕ → (ℕ → ℕ → Bool) → List ℕ → Type 0
+Within n R l = (p q : ℕ) → p < n → q < n → getD l p 0 ≡ getD l q 0 → R p q ≡ true
+
+-- the pairs with numbers from lo to below hi are looked at: 128 times the one place and the other
+pub record Merged (link : ℕ → ℕ → Bool) (n lo hi : ℕ) (l l′ : List ℕ) : Type 0 where
+  pub size : length l′ ≡ length l
+  pub same : n ≤ length l → (p q : ℕ) → p < n → q < n → getD l p 0 ≡ getD l q 0 → getD l′ p 0 ≡ getD l′ q 0
+  pub linked : n ≤ length l → (x : ℕ) → lo ≤ x → x < hi → x / 128 < n → x % 128 < x / 128 → link (x / 128) (x % 128) ≡ true
+      → getD l′ (x / 128) 0 ≡ getD l′ (x % 128) 0
+  pub within : n ≤ length l → (R : ℕ → ℕ → Bool) → Relates link n R → Within n R l → Within n R l′
+
+-- what the labels say in the end
+pub record Labelled (link : ℕ → ℕ → Bool) (n : ℕ) (l l′ : List ℕ) : Type 0 where
+  pub size : length l′ ≡ length l
+  pub linked : n ≤ length l → n ≤ 128 → (a b : ℕ) → b < a → a < n → link a b ≡ true → getD l′ a 0 ≡ getD l′ b 0
+  pub within : n ≤ length l → (R : ℕ → ℕ → Bool) → Relates link n R → ((p : ℕ) → p < n → R p p ≡ true) → Within n R l′

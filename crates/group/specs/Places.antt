@@ -1,0 +1,39 @@
+-- The anchor of a place's group, as a place: 8 times the place of its cell and its facet.
+use mathlib.Core.Bool.{Bool, true, false, cond, not, _&&_, _||_}
+use mathlib.Core.List.{List, map}
+use Prim.Native.Nat.{ℕ, _+_, _/_, _%_}
+use lib.Dec.{eqb, ltb}
+use lib.ListN.{getD}
+use Rattle.lists.specs.Lists.{has, select, first}
+use Rattle.numbers.specs.Half.{halfOf}
+use Rattle.store.specs.declared.Caps.{Caps}
+use Rattle.store.specs.Layout.{cellAt}
+use Rattle.facet.specs.Facet.{facetIn}
+
+-- the sibling word of a cell's facet has the number of that half-facet
+unfoldable pub borderIn : List ℕ → Caps → ℕ → ℕ → Bool
+borderIn w caps c f = eqb (getD w (cellAt (caps .marks) c + (5 + f % 8)) 0) (halfOf (c % 65536) (f % 8))
+
+-- the half-facet is a border, where only those are asked for
+unfoldable pub wantedIn : List ℕ → Caps → ℕ → ℕ → Bool → Bool
+wantedIn w caps c f only = not only || borderIn w caps c f
+
+-- the half-facet at a place is in the group of place i, is wanted and holds v
+unfoldable pub chosenIn : List ℕ → Caps → List (List (List ℕ)) → ℕ → List ℕ → List ℕ → ℕ → Bool → ℕ → Bool
+chosenIn w caps rows v cells lab i only x =
+    eqb (getD lab (x / 8) 0) (getD lab i 0)
+    && (wantedIn w caps (getD cells (x / 8) 0) (x % 8) only && has v (facetIn w caps rows (getD cells (x / 8) 0) (x % 8)))
+
+-- the first such place; end where there is none
+unfoldable pub seekIn : List ℕ → Caps → List (List (List ℕ)) → ℕ → List ℕ → List ℕ → ℕ → ℕ → Bool → ℕ
+seekIn w caps rows v cells lab end i only = first end (select (chosenIn w caps rows v cells lab i only) end)
+
+-- the first border, or the first of all
+unfoldable pub placeIn : List ℕ → Caps → List (List (List ℕ)) → ℕ → List ℕ → List ℕ → ℕ → ℕ → ℕ
+placeIn w caps rows v cells lab end i =
+    cond (ltb (seekIn w caps rows v cells lab end i true) end) (seekIn w caps rows v cells lab end i true)
+    (seekIn w caps rows v cells lab end i false)
+
+-- the anchors, each at the place of its own cell
+unfoldable pub anchorsIn : (ℕ → ℕ) → List ℕ → ℕ → List ℕ
+anchorsIn place cells n = map (λ i. halfOf (getD cells i 0 % 65536) (place i % 8)) (select (λ i. eqb (place i / 8) i) n)
