@@ -21,32 +21,20 @@ use Rattle.picture.specs.Ready.{Ready, Settled}
 use Rattle.picture.proofs.Alike.{withAncs, pic-ancs, state-same}
 use Rattle.settle.specs.Settle.{among, settled}
 use Rattle.settle.specs.Sibs.{Sibs}
+use Rattle.settle.specs.Ancs.{Ancs, threeAncs}
 use Rattle.settle.proofs.Sibs.{same-map}
 
--- s′ is s with first anchors right, but for the marks that are left
-pub record Ancs (caps : Caps) (s s′ : State) (marks : List ℕ) : Type 0 where
-  pub at : s′ .at ≡ s .at
-  pub chain : s′ .chain ≡ s .chain
-  pub sib : s′ .sib ≡ s .sib
-  pub count : s′ .count ≡ s .count
-  pub right : (d v : ℕ) → 1 ≤ d → d ≤ 3 → has v marks ≡ false → s′ .anc d v ≡ stateOf (mapWith caps s) .anc d v
-
 module _ (caps : Caps) (s : State) where
-  -- the three first anchors of a mark
-  pub put-three : State → ℕ → State
-  put-three s′ v =
-      withAnc (withAnc (withAnc s′ 1 v (stateOf (mapWith caps s) .anc 1 v)) 2 v (stateOf (mapWith caps s) .anc 2 v)) 3 v (stateOf (mapWith caps s) .anc 3 v)
-
-  three-here : (s′ : State) (v d : ℕ) → 1 ≤ d → d ≤ 3 → put-three s′ v .anc d v ≡ stateOf (mapWith caps s) .anc d v
-  unfolding put-three withAnc
+  three-here : (s′ : State) (v d : ℕ) → 1 ≤ d → d ≤ 3 → threeAncs caps s s′ v .anc d v ≡ stateOf (mapWith caps s) .anc d v
+  unfolding threeAncs withAnc
   three-here s′ v zero a b = absurd (omega arith)
   three-here s′ v (suc zero) a b = rw (eq-eqb v v refl)
   three-here s′ v (suc (suc zero)) a b = rw (eq-eqb v v refl)
   three-here s′ v (suc (suc (suc zero))) a b = rw (eq-eqb v v refl)
   three-here s′ v (suc (suc (suc (suc d)))) a b = absurd (omega arith)
 
-  three-other : (s′ : State) (v d u : ℕ) → (v ≡ u → ⊥) → put-three s′ v .anc d u ≡ s′ .anc d u
-  unfolding put-three withAnc
+  three-other : (s′ : State) (v d u : ℕ) → (v ≡ u → ⊥) → threeAncs caps s s′ v .anc d u ≡ s′ .anc d u
+  unfolding threeAncs withAnc
   three-other s′ v d u ne =
       rw (ne-eqb v u ne) (go (eqb 3 d) (eqb 2 d) (eqb 1 d))
     where
@@ -62,8 +50,8 @@ module _ (caps : Caps) (s : State) where
       go false false true = refl
       go false false false = refl
 
-  pub ancs-more : (s′ : State) (v : ℕ) (marks : List ℕ) → Ancs caps s s′ (v ∷ marks) → Ancs caps s (put-three s′ v) marks
-  unfolding put-three withAnc has
+  pub ancs-more : (s′ : State) (v : ℕ) (marks : List ℕ) → Ancs caps s s′ (v ∷ marks) → Ancs caps s (threeAncs caps s s′ v) marks
+  unfolding threeAncs withAnc has
   ancs-more s′ v marks p = record
       { at = p .at
       ; chain = p .chain
@@ -72,8 +60,8 @@ module _ (caps : Caps) (s : State) where
       ; right = λ d u a b e. go d u a b e (ℕ-discrete v u)
       }
     where
-      go : (d u : ℕ) → 1 ≤ d → d ≤ 3 → has u marks ≡ false → Dec (v ≡ u) → put-three s′ v .anc d u ≡ stateOf (mapWith caps s) .anc d u
-      go d u a b e (yes q) = subst (λ (x : ℕ). put-three s′ v .anc d x ≡ stateOf (mapWith caps s) .anc d x) q (three-here s′ v d a b)
+      go : (d u : ℕ) → 1 ≤ d → d ≤ 3 → has u marks ≡ false → Dec (v ≡ u) → threeAncs caps s s′ v .anc d u ≡ stateOf (mapWith caps s) .anc d u
+      go d u a b e (yes q) = subst (λ (x : ℕ). threeAncs caps s s′ v .anc d x ≡ stateOf (mapWith caps s) .anc d x) q (three-here s′ v d a b)
       go d u a b e (no f) = three-other s′ v d u f ∙ p .right d u a b (rw (ne-eqb v u f) e)
 
 -- all siblings and all first anchors right: settled

@@ -3,3 +3,4 @@ pub mod Sibs
 pub mod Ancs
 pub mod Setting
 pub mod Mending
+pub mod Anchoring

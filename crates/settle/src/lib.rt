@@ -1,8 +1,8 @@
 // After a cell has come or gone, what is around it is settled.
 //
-// What is here: `mend_all` mends the siblings of the sets of the cell's facets. It is total on any memory. What is proved: nothing beyond
-// the room changes; on the picture of a state that may settle (specs/Settle.antt) all siblings are right afterwards. What a caller should
-// know: the cell is given by its type and marks, for it may be gone.
+// What is here: `settle` mends the siblings of the sets of the cell's facets and puts the first anchors of its marks. It is total on any
+// memory. What is proved: nothing beyond the room changes; on the picture of a state that may settle (specs/Settle.antt) all siblings and
+// all first anchors are right afterwards. What a caller should know: the cell is given by its type and marks, for it may be gone.
 ghost use mathlib.Core.Path.{_≡_};
 ghost use mathlib.Core.List.{[]};
 ghost use Prim.Native.Nat.{min};
@@ -11,7 +11,12 @@ ghost use Rattle.picture.specs.Step.{Step};
 ghost use Rattle.sibling.specs.Shared.{MayMend, mended};
 ghost use Rattle.settle.specs.Sets.{setIn};
 ghost use Rattle.settle.specs.Mended.{Mends};
+ghost use Rattle.settle.specs.Ancs.{Anchors, threeAncs};
+ghost use Rattle.settle.specs.Settle.{MaySettle, settled};
+ghost use Rattle.group.specs.Group.{Around};
 
+use group::first_anchor_of;
+use picture::put_anchor;
 use shapes::column;
 use shapes::facet_count;
 use sibling::mend;
@@ -60,4 +65,35 @@ pub fn mend_all(w: &mut [u32], caps: Caps, rows: &[[[u8; 5]; 6]; 5], t: u32, mar
         mend_facet(w, caps, rows, t, f, marks);
         f += 1;
     }
+}
+
+// The first anchors of one mark, in each dimension.
+fn anchor_mark(w: &mut [u32], caps: Caps, rows: &[[[u8; 5]; 6]; 5], v: u32)
+    ensures { λ _. ⌜ Step caps (now (w .entry)) (now (w .exit)) (Around caps (now (rows .entry)) v) (λ s. threeAncs caps s s v) ⌝ }
+{
+    let bars = first_anchor_of(w, caps, rows, 1, v);
+    let faces = first_anchor_of(w, caps, rows, 2, v);
+    let solids = first_anchor_of(w, caps, rows, 3, v);
+    put_anchor(w, caps, 1, v, bars);
+    put_anchor(w, caps, 2, v, faces);
+    put_anchor(w, caps, 3, v, solids);
+}
+
+// The first anchors of all marks.
+pub fn anchor_all(w: &mut [u32], caps: Caps, rows: &[[[u8; 5]; 6]; 5], marks: &[u32])
+    ensures { λ _. ⌜ Anchors caps (now (rows .entry)) (now (marks .entry)) (now (w .entry)) (now (w .exit)) [] ⌝ }
+{
+    let mut i: usize = 0;
+    while i < marks.len() {
+        anchor_mark(w, caps, rows, word(marks, i));
+        i += 1;
+    }
+}
+
+// The siblings of the cell's sets and the first anchors of its marks.
+pub fn settle(w: &mut [u32], caps: Caps, rows: &[[[u8; 5]; 6]; 5], t: u32, marks: &[u32])
+    ensures { λ _. ⌜ Step caps (now (w .entry)) (now (w .exit)) (MaySettle caps (now (rows .entry)) t (now (marks .entry))) (settled caps) ⌝ }
+{
+    mend_all(w, caps, rows, t, marks);
+    anchor_all(w, caps, rows, marks);
 }

@@ -1,0 +1,54 @@
+-- `settle::anchor_all` meets its contract.
+use Prim.Native.Nat.{_-_, _≤_}
+use native.Mathlib.Omega.{arith}
+use lib.ListN.{length, drop}
+use Rattle.settle.specs.Ancs.{Anchors}
+use Rattle.settle.proofs.Anchoring.{anchors-start, anchors-more, anchors-done}
+use borrow.Author.Needs.{needs}
+use Rattle.settle.proofs.anchor_all.Statement.{statement}
+use Rattle.settle.proofs.anchor_all.Tie as tie
+
+abbrev Inv-loop : tie.InvT-loop
+Inv-loop w₀ caps rows marks i₀ w i = (i ≤ length marks) × Anchors caps rows marks w₀ w (drop i marks)
+
+abbrev μ-loop : tie.MeasureT-loop
+μ-loop w₀ caps rows marks i₀ w i = length marks - i
+
+loop-holds : tie.Need-loop-holds Inv-loop μ-loop
+loop-holds c = (omega arith, anchors-start _ _ _ _)
+
+word-requires : tie.Need-word-requires Inv-loop μ-loop
+word-requires c κs = search needs
+
+anchor-mark-requires : tie.Need-anchor-mark-requires Inv-loop μ-loop
+anchor-mark-requires c κs = search needs
+
+add-i : tie.Need-add-i Inv-loop μ-loop
+add-i c = search needs
+
+loop-less : tie.Need-loop-less Inv-loop μ-loop
+loop-less c = search needs
+
+loop-again : tie.Need-loop-again Inv-loop μ-loop
+loop-again c = (omega arith, anchors-more _ _ _ _ _ _ (c .before .before .before .before .before .before .loop .i) _ (c .before .before .before .word .ensures) (c .before .before .before .before .before .before .loop .inv .1) (omega arith) (c .before .before .anchor-mark .ensures))
+
+same-length : tie.Need-same-length Inv-loop μ-loop
+same-length c = search needs
+
+returns : tie.Need-returns Inv-loop μ-loop
+returns c = anchors-done _ _ _ _ _ (c .before .loop .i) (c .before .loop .inv .1) (omega arith)
+
+pub anchor-all-spec : {M : Type 1} → statement M
+anchor-all-spec =
+    tie.close
+    (tie.spec
+    Inv-loop
+    μ-loop
+    loop-holds
+    word-requires
+    anchor-mark-requires
+    add-i
+    loop-less
+    loop-again
+    same-length
+    returns)
