@@ -7,7 +7,6 @@ ghost use mathlib.Core.Path.{_≡_};
 ghost use Prim.Native.Nat.{_≤_};
 ghost use Rattle.format.specs.Formatted.{Formatted};
 ghost use Rattle.format.specs.Cleared.{Cleared};
-
 use map::Refusal;
 use map::Verdict;
 use words::put;

@@ -16,7 +16,7 @@ use Rattle.shapes.specs.Shapes.{shape, shapes, noShape}
 use Rattle.map.specs.Cells.{Body, Live, Map, noCell, bodyIn, mapOf, live, dimensionAt, holds, cellsOf}
 use Rattle.map.specs.Stars.{holders}
 use Rattle.map.specs.Answers.{Check, _when_, answer, insertChecks, cellChecks}
-use Rattle.map.specs.History.{Mesh, mapIn, empty, without, Edit, Insert, Remove, editAnswer, made, changed, edited, history}
+use Rattle.map.specs.History.{Mesh, mapIn, empty, without, Edit, Insert, Remove, editAnswer, made, changed, edited, history, editedMap, mapHistory}
 use Rattle.map.specs.Sound.{Sound}
 use Rattle.lists.proofs.Counts.{none-has, has-none, select-none, select-fewer, select-more}
 
@@ -43,15 +43,6 @@ unfolding mapIn made mapOf changed bodyIn
 mapIn-made m (Insert c t marks) = refl
 mapIn-made m (Remove c) =
     ap (λ (at : ℕ → Body). record { marks = m .marks; cells = m .cells; at = at }) (fun-ext (without-body c (m .live)))
-
--- an edit of the map: made where it is accepted
-unfoldable pub editedMap : Map → Edit → Map
-editedMap m e = cond (eqb (editAnswer m e .refusal) 0) (changed m e) m
-
--- the edits of a list, one after another
-unfoldable pub mapHistory : Map → List Edit → Map
-mapHistory m [] = m
-mapHistory m (e ∷ es) = mapHistory (editedMap m e) es
 
 -- an edit of the mesh is the edit of its map
 pub mapIn-edited : (m : Mesh) (e : Edit) → mapIn (edited m e) ≡ editedMap (mapIn m) e

@@ -14,13 +14,13 @@ use Rattle.lists.specs.Lists.{has, all, repeats, sameSet}
 use Rattle.lists.proofs.Bools.{clash, not-true-false, and-left, and-right, and-both}
 use Rattle.map.specs.Cells.{Body, Live, Map, noCell, bodyIn, mapOf, live, dimensionAt, holds}
 use Rattle.map.specs.Stars.{holders}
-use Rattle.map.specs.History.{Mesh, mapIn, empty, without, Edit, Insert, Remove, editAnswer, made, changed, edited, history}
+use Rattle.map.specs.History.{Mesh, mapIn, empty, without, Edit, Insert, Remove, editAnswer, made, changed, edited, history, editedMap, mapHistory}
 use Rattle.map.specs.History.{Outcome, build, buildFrom}
 use Rattle.map.specs.Sound.{Sound}
 use Rattle.lists.proofs.Counts.{neither, select-fewer}
 use Rattle.laws.proofs.Orders.{Shuffled, numbers, Distinct, distinct-parts, order-free}
 use Rattle.laws.proofs.Orders.{shuffled-front, shuffled-distinct, shuffled-all, shuffled-same}
-use Rattle.laws.proofs.Edits.{editedMap, mapHistory, mapIn-made, mapIn-history, edited-changed, MayInsert, may-insert, insert-may}
+use Rattle.laws.proofs.Edits.{mapIn-made, mapIn-history, edited-changed, MayInsert, may-insert, insert-may}
 use Rattle.laws.proofs.Edits.{sound-made, sound-empty, coded, typed-coded, none-holds, put, put-all, holders-more}
 
 -- a map of some of the cells of m

@@ -59,6 +59,15 @@ unfoldable pub history : Mesh → List Edit → Mesh
 history m [] = m
 history m (e ∷ es) = history (edited m e) es
 
+-- an edit of the map: made where it is accepted
+unfoldable pub editedMap : Map → Edit → Map
+editedMap m e = cond (eqb (editAnswer m e .refusal) 0) (changed m e) m
+
+-- the edits of a list, one after another
+unfoldable pub mapHistory : Map → List Edit → Map
+mapHistory m [] = m
+mapHistory m (e ∷ es) = mapHistory (editedMap m e) es
+
 -- what a build answers, the place of the refused record, and the mesh that it leaves
 pub record Outcome : Type 0 where
   pub refusal : ℕ

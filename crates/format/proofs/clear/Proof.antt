@@ -1,42 +1,42 @@
+-- `format::clear` meets its contract.
+use Prim.Native.Nat.{_-_, _≤_}
+use native.Mathlib.Omega.{arith}
+use borrow.Author.Needs.{needs}
+use Rattle.format.specs.Cleared.{Cleared}
+use Rattle.format.proofs.Clears.{clear-start, clear-more, clear-end}
 use Rattle.format.proofs.clear.Statement.{statement}
 use Rattle.format.proofs.clear.Tie as tie
-use Rattle.format.proofs.clear.Reads as reads
-use Rattle.format.proofs.clear.Lts as lts
-use Rattle.words.proofs.put.Reads as put-reads
 
 abbrev Inv-loop : tie.InvT-loop
-Inv-loop w₀ n i₀ w i = ?
+Inv-loop w₀ n i₀ w i = (i ≤ n) × Cleared i w₀ w
 
 abbrev μ-loop : tie.MeasureT-loop
-μ-loop w₀ n i₀ w i = ?
+μ-loop w₀ n i₀ w i = n - i
 
--- src/lib.rt:20:5
 loop-holds : tie.Need-loop-holds Inv-loop μ-loop
-loop-holds c = ?
+loop-holds c = (omega arith, clear-start _ _ (omega arith))
 
--- src/lib.rt:21:9
 put-requires : tie.Need-put-requires Inv-loop μ-loop
-put-requires c κs = ?
+put-requires c κs = search needs
 
--- src/lib.rt:22:9
 add-i : tie.Need-add-i Inv-loop μ-loop
-add-i c = ?
+add-i c = search needs
 
--- src/lib.rt:20:5
 loop-less : tie.Need-loop-less Inv-loop μ-loop
-loop-less c = ?
+loop-less c = search needs
 
--- src/lib.rt:20:5
 loop-again : tie.Need-loop-again Inv-loop μ-loop
-loop-again c = ?
+loop-again c = (
+  omega arith,
+  clear-more _ _ _ _ _ _ (c .before .before .before .before .before .loop .inv .1)
+      (c .before .before .put .ensures) (omega arith) (omega arith),
+)
 
--- src/lib.rt:16:1
 same-length : tie.Need-same-length Inv-loop μ-loop
-same-length c = ?
+same-length c = search needs
 
--- src/lib.rt:16:1
 returns : tie.Need-returns Inv-loop μ-loop
-returns c = ?
+returns c = clear-end _ _ (c .before .loop .i) _ (c .before .loop .inv .1) (omega arith) (omega arith)
 
 pub clear-spec : {M : Type 1} → statement M
 clear-spec =

@@ -1,0 +1,4 @@
+-- The laws that the layers above cite.
+pub mod Clears
+pub mod Emptied
+pub mod Head

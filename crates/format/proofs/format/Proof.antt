@@ -1,0 +1,71 @@
+-- `format::format` meets its contract.
+use native.Mathlib.Omega.{arith}
+use Rattle.store.specs.Layout.{room, magic}
+use Rattle.format.proofs.Head.{format-marks, format-cells, format-short, format-made}
+use borrow.Author.Needs.{needs}
+use Rattle.format.proofs.format.Statement.{statement}
+use Rattle.format.proofs.format.Tie as tie
+
+returns : tie.Need-returns
+returns c = format-marks _ _ _ (omega arith)
+
+returns-2 : tie.Need-returns-2
+returns-2 c = format-cells _ _ _ (omega arith) (omega arith)
+
+mul-room : tie.Need-mul-room
+mul-room c = search needs
+
+add-room : tie.Need-add-room
+add-room c = search needs
+
+mul-room-2 : tie.Need-mul-room-2
+mul-room-2 c = search needs
+
+add-room-2 : tie.Need-add-room-2
+add-room-2 c = search needs
+
+returns-3 : tie.Need-returns-3
+unfolding room
+returns-3 c = format-short _ _ _ (omega arith) (omega arith) (omega arith)
+
+clear-requires : tie.Need-clear-requires
+clear-requires c κs = search needs
+
+put-requires : tie.Need-put-requires
+put-requires c κs = search needs
+
+put-requires-2 : tie.Need-put-requires-2
+put-requires-2 c κs = search needs
+
+put-requires-3 : tie.Need-put-requires-3
+put-requires-3 c κs = search needs
+
+same-length : tie.Need-same-length
+same-length c = search needs
+
+returns-4 : tie.Need-returns-4
+unfolding room magic
+returns-4 c =
+    format-made _ _ _ (omega arith) (omega arith) (omega arith) _ _ _ _ _ _ _ _ _ _ _ (c .before .before .before .before .before .before .before .before .before .before .before .before .before .before .clear .ensures) (omega arith)
+    (c .before .before .before .before .before .before .before .before .before .before .put .ensures)
+    (c .before .before .before .before .before .before .put2 .ensures)
+    (c .before .before .put3 .ensures)
+    (omega arith) (omega arith) (omega arith) (omega arith) (omega arith) (omega arith)
+
+pub format-spec : {M : Type 1} → statement M
+format-spec =
+    tie.close
+    (tie.spec
+    returns
+    returns-2
+    mul-room
+    add-room
+    mul-room-2
+    add-room-2
+    returns-3
+    clear-requires
+    put-requires
+    put-requires-2
+    put-requires-3
+    same-length
+    returns-4)

@@ -1,0 +1,3 @@
+-- The laws of the edits.
+pub mod Inserting
+pub mod Answering
