@@ -1,3 +1,4 @@
 -- The laws of the edits.
 pub mod Inserting
 pub mod Answering
+pub mod Removing
