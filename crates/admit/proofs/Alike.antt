@@ -134,20 +134,20 @@ module _ (w : List ℕ) (caps : Caps) (t : ℕ) (marks : List ℕ) (m : Map) (e 
   along-first =
       same-test (any (sameIn w caps t marks) (holders m (getD marks 0 0))) (any (λ k. sameSet (m .at k .marks) marks) (cellsOf m t))
       (λ q.
-        let r = any-has (sameIn w caps t marks) (holders m (getD marks 0 0)) q in
-        let below = select-out (holds m (getD marks 0 0)) (m .cells) (r .0) (r .1) .0 in
-        let code = record-code (r .0) below (r .2) in
-        has-any (λ k. sameSet (m .at k .marks) marks) (cellsOf m t) (r .0)
-        (select-in (λ c. eqb (m .at c .code) t) (m .cells) (r .0) below (eq-eqb (m .at (r .0) .code) t code))
-        (sym (record-is (r .0) below code) ∙ r .2))
+      let r = any-has (sameIn w caps t marks) (holders m (getD marks 0 0)) q in
+      let below = select-out (holds m (getD marks 0 0)) (m .cells) (r .0) (r .1) .0 in
+      let code = record-code (r .0) below (r .2) in
+      has-any (λ k. sameSet (m .at k .marks) marks) (cellsOf m t) (r .0)
+      (select-in (λ c. eqb (m .at c .code) t) (m .cells) (r .0) below (eq-eqb (m .at (r .0) .code) t code))
+      (sym (record-is (r .0) below code) ∙ r .2))
       (λ q.
-        let r = any-has (λ k. sameSet (m .at k .marks) marks) (cellsOf m t) q in
-        let o = select-out (λ c. eqb (m .at c .code) t) (m .cells) (r .0) (r .1) in
-        let code = eqb-true (m .at (r .0) .code) t (o .1) in
-        has-any (sameIn w caps t marks) (holders m (getD marks 0 0)) (r .0)
-        (select-in (holds m (getD marks 0 0)) (m .cells) (r .0) (o .0)
-        (same-has (m .at (r .0) .marks) marks (r .2) (getD marks 0 0) ∙ at-has marks 0 some-mark))
-        (record-is (r .0) (o .0) code ∙ r .2))
+      let r = any-has (λ k. sameSet (m .at k .marks) marks) (cellsOf m t) q in
+      let o = select-out (λ c. eqb (m .at c .code) t) (m .cells) (r .0) (r .1) in
+      let code = eqb-true (m .at (r .0) .code) t (o .1) in
+      has-any (sameIn w caps t marks) (holders m (getD marks 0 0)) (r .0)
+      (select-in (holds m (getD marks 0 0)) (m .cells) (r .0) (o .0)
+      (same-has (m .at (r .0) .marks) marks (r .2) (getD marks 0 0) ∙ at-has marks 0 some-mark))
+      (record-is (r .0) (o .0) code ∙ r .2))
 
 module _ (w : List ℕ) (caps : Caps) (t : ℕ) (marks : List ℕ) where
   -- among the holders of one of the marks are all cells of that set
@@ -156,7 +156,7 @@ module _ (w : List ℕ) (caps : Caps) (t : ℕ) (marks : List ℕ) where
   same-found v first zeros cells n g room r q = record { tells = λ m e wf kind count mark. q ∙ found m e wf kind count mark }
     where
       found : (m : Map) → capsOf m ≡ caps → Wf w m → 0 < shape t .dimension → length marks ≡ shape t .marks → getD marks 0 0 < caps .marks
-        → any (sameIn w caps t marks) (listOf n (λ i. getD cells i 0)) ≡ any (λ k. sameSet (m .at k .marks) marks) (cellsOf m t)
+          → any (sameIn w caps t marks) (listOf n (λ i. getD cells i 0)) ≡ any (λ k. sameSet (m .at k .marks) marks) (cellsOf m t)
       found m e wf kind count mark =
           ap (any (sameIn w caps t marks)) (gathered-holders w caps v zeros cells n g room m e wf (rw first mark))
           ∙ (ap (λ (u : ℕ). any (sameIn w caps t marks) (holders m u)) first ∙ along-first w caps t marks m e wf kind count)

@@ -87,6 +87,7 @@ module _ (w : List ℕ) (caps : Caps) (c t : ℕ) (marks : List ℕ) where
                   where
                     positive : 0 < shape t .dimension
                     positive = omega (arith, some)
+
                     first : 0 < length marks
                     first = omega (arith, type-marks t positive)
 
@@ -101,10 +102,10 @@ module _ (w : List ℕ) (caps : Caps) (c t : ℕ) (marks : List ℕ) where
                       full
                       ∙ any-same (fullIn w) (λ v. leb 128 (length (holders m v))) marks
                       (λ v q.
-                        let low : v < caps .marks = leb-false (caps .marks) v (none-has (leb (caps .marks)) marks inside v q) in
-                        ap (leb 128)
-                        (count-word w caps (stateOf m) (wf-pic w caps m e wf) v low
-                        ∙ ap length (chain-holders caps (stateOf m) (wf-settled w caps m e wf .ready) v ∙ ap (λ (k : Map). holders k v) (wf-map w caps m e wf))))
+                      let low : v < caps .marks = leb-false (caps .marks) v (none-has (leb (caps .marks)) marks inside v q) in
+                      ap (leb 128)
+                      (count-word w caps (stateOf m) (wf-pic w caps m e wf) v low
+                      ∙ ap length (chain-holders caps (stateOf m) (wf-settled w caps m e wf .ready) v ∙ ap (λ (k : Map). holders k v) (wf-map w caps m e wf))))
 
                   pub in-full : f ≡ true → Checked w caps (λ m. insertChecks m c t marks) (Refused MarkFull)
                   unfolding insertChecks _when_ answer verdictSays refused

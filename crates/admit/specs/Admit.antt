@@ -27,4 +27,4 @@ fullIn w v = leb 128 (getD w (markAt v + 1) 0)
 -- a live cell of that type has the same set of marks
 pub record Same (w : List ℕ) (caps : Caps) (t : ℕ) (marks : List ℕ) (r : Bool) : Type 0 where
   pub tells : (m : Map) → capsOf m ≡ caps → Wf w m → 0 < shape t .dimension → length marks ≡ shape t .marks
-    → getD marks 0 0 < caps .marks → r ≡ any (λ k. sameSet (m .at k .marks) marks) (cellsOf m t)
+      → getD marks 0 0 < caps .marks → r ≡ any (λ k. sameSet (m .at k .marks) marks) (cellsOf m t)

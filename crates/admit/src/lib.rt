@@ -8,7 +8,6 @@ ghost use Rattle.lists.specs.Lists.{any, listOf};
 ghost use Rattle.map.specs.Answers.{insertChecks};
 ghost use Rattle.checks.specs.Checked.{Checked};
 ghost use Rattle.admit.specs.Admit.{sameIn, fullIn, Same};
-
 use chain::gather;
 use lists::reaches;
 use lists::repeats;

@@ -29,10 +29,10 @@ module _ {A : Type 0} (says : A → Answer) (noMesh : A) (w : List ℕ) (answers
 
   pub asked-mesh : (r : A) (caps : Caps) → Mesh caps ≡ opened w → ((m : Map) → capsOf m ≡ caps → Wf w m → says r ≡ answers m)
       → Asked says noMesh w answers r
-  asked-mesh r caps e f = record
-      { refused = λ no. absurd (clash (mesh-opened w caps e .0) no)
-      ; answers = λ m wf. f m (wf-caps w m wf caps e) wf
-      }
+  asked-mesh r caps e f = record {
+    refused = λ no. absurd (clash (mesh-opened w caps e .0) no);
+    answers = λ m wf. f m (wf-caps w m wf caps e) wf;
+  }
 
 module _ {A : Type 0} (says : A → Answer) (noMesh : A) (w : List ℕ) (caps : Caps) (checks : Map → List Check) (values : Map → List ℕ)
     (opens : Mesh caps ≡ opened w) where

@@ -62,8 +62,8 @@ module _ (w : List ℕ) (caps : Caps) (opens : Mesh caps ≡ opened w) (verdict 
     type-given v t word =
         asked-given valueSays noValue w caps (λ m. cellChecks m c) (λ m. m .at c .code ∷ []) opens (Value.Is t) verdict checked v (λ m. cell-numbered m c)
         (λ m e wf.
-          let below : c < caps .cells = omega (arith, cell-passed w caps verdict v m e wf c checked .0, cells-of caps m e) in
-          ap (λ (n : ℕ). given (n ∷ [])) (word ∙ code-of caps m e w wf c below))
+        let below : c < caps .cells = omega (arith, cell-passed w caps verdict v m e wf c checked .0, cells-of caps m e) in
+        ap (λ (n : ℕ). given (n ∷ [])) (word ∙ code-of caps m e w wf c below))
 
   module _ (c f : ℕ) (checked : Checked w caps (λ m. halfChecks m c f) verdict) where
     pub sibling-refused : (why : Refusal) → verdict ≡ Refused why → Asked halfSays noHalf w (λ m. siblingAnswer m c f) (HalfAt′.Refused why)
@@ -96,9 +96,9 @@ module _ (w : List ℕ) (caps : Caps) (opens : Mesh caps ≡ opened w) (verdict 
           asked-given truthSays noTruth w caps (λ m. halfChecks m c f) (λ m. cond (border m (halfOf c f)) 1 0 ∷ []) opens Truth.Yes verdict checked v
           (λ m. half-numbered m c f)
           (λ m e wf.
-            let p = half-passed w caps verdict v m e wf c f checked in
-            let own : sibling m (halfOf c f) ≡ halfOf c f = sym (led m e wf) ∙ (same ∙ (half ∙ uncut-is w caps m e wf c f (p .0) (p .2))) in
-            rw (self-border m (halfOf c f) (half-is w caps m e wf c f (p .0) (p .2)) own))
+          let p = half-passed w caps verdict v m e wf c f checked in
+          let own : sibling m (halfOf c f) ≡ halfOf c f = sym (led m e wf) ∙ (same ∙ (half ∙ uncut-is w caps m e wf c f (p .0) (p .2))) in
+          rw (self-border m (halfOf c f) (half-is w caps m e wf c f (p .0) (p .2)) own))
 
       pub border-no : (y : ℕ) → y ≡ halfOf (c % 65536) (f % 8) → (x ≡ y → ⊥) → Asked truthSays noTruth w (λ m. borderAnswer m c f) Truth.No
       unfolding borderAnswer truthSays
@@ -106,10 +106,10 @@ module _ (w : List ℕ) (caps : Caps) (opens : Mesh caps ≡ opened w) (verdict 
           asked-given truthSays noTruth w caps (λ m. halfChecks m c f) (λ m. cond (border m (halfOf c f)) 1 0 ∷ []) opens Truth.No verdict checked v
           (λ m. half-numbered m c f)
           (λ m e wf.
-            let p = half-passed w caps verdict v m e wf c f checked in
-            let none : border m (halfOf c f) ≡ false = not-true-false (border m (halfOf c f)) (λ b.
-                other (led m e wf ∙ (border-self m (halfOf c f) (half-is w caps m e wf c f (p .0) (p .2)) b ∙ sym (half ∙ uncut-is w caps m e wf c f (p .0) (p .2))))) in
-            rw none)
+          let p = half-passed w caps verdict v m e wf c f checked in
+          let none : border m (halfOf c f) ≡ false = not-true-false (border m (halfOf c f)) (λ b.
+          other (led m e wf ∙ (border-self m (halfOf c f) (half-is w caps m e wf c f (p .0) (p .2)) b ∙ sym (half ∙ uncut-is w caps m e wf c f (p .0) (p .2))))) in
+          rw none)
 
   module _ (d v : ℕ) (checked : Checked w caps (λ m. starChecks m d v) verdict) where
     pub anchor-refused : (why : Refusal) → verdict ≡ Refused why → Asked foundSays noFound w (λ m. firstAnchorAnswer m d v) (Found.Refused why)
@@ -158,17 +158,17 @@ module _ (w : List ℕ) (h c f : ℕ) (r : HalfAt) (cell : c ≡ h / 8) (facet :
 
   pub step-refused : (why : Refusal) → r ≡ HalfAt′.Refused why → Asked stepSays noStep w (λ m. stepAnswer m h) (Step.Refused why)
   unfolding stepSays halfSays
-  step-refused why q = record
-      { refused = λ no. let same : HalfAt′.Refused why ≡ HalfAt′.Refused NotMesh = sym q ∙ asked .refused no in cc
-      ; answers = λ m wf. ap halfSays (sym q) ∙ (asked .answers m wf ∙ same-place m)
-      }
+  step-refused why q = record {
+    refused = λ no. let same : HalfAt′.Refused why ≡ HalfAt′.Refused NotMesh = sym q ∙ asked .refused no in cc;
+    answers = λ m wf. ap halfSays (sym q) ∙ (asked .answers m wf ∙ same-place m);
+  }
 
   pub step-next : (k : Half) → r ≡ HalfAt′.At k → Asked stepSays noStep w (λ m. stepAnswer m h) (Step.Next (record { 0 = k }))
   unfolding stepSays halfSays
-  step-next k q = record
-      { refused = λ no. absurd (never k (sym q ∙ asked .refused no))
-      ; answers = λ m wf. ap halfSays (sym q) ∙ (asked .answers m wf ∙ same-place m)
-      }
+  step-next k q = record {
+    refused = λ no. absurd (never k (sym q ∙ asked .refused no));
+    answers = λ m wf. ap halfSays (sym q) ∙ (asked .answers m wf ∙ same-place m);
+  }
     where
       never : (k : Half) → HalfAt′.At k ≡ HalfAt′.Refused NotMesh → ⊥
       never k e = let z : _≡_ {A = ℕ} 0 1 = cc in omega arith

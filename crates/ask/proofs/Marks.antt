@@ -52,14 +52,14 @@ module _ (w : List ℕ) (caps : Caps) (opens : Mesh caps ≡ opened w) (c : ℕ)
 
   pub handed-refused : (why : Refusal) → verdict ≡ Refused why → (r : List ℕ) → r ≡ partOf w 0 0 → Handed w (λ m. marksPart m c) r
   unfolding marksPart typeAnswer verdictSays refused
-  handed-refused why v r q = record
-      { refused = λ none. absurd (mesh none)
-      ; answers = λ m wf.
-          let e = wf-caps w m wf caps opens in
-          let a : refused why ≡ answer (cellChecks m c) (m .at c .code ∷ []) =
-              refused-values (cellChecks m c) why (m .at c .code ∷ []) (ap verdictSays (sym v) ∙ checked .says m e wf) in
-          (q ∙ part-zero w) ∙ rw (← a, some-number why)
-      }
+  handed-refused why v r q = record {
+    refused = λ none. absurd (mesh none);
+    answers = λ m wf.
+        let e = wf-caps w m wf caps opens in
+        let a : refused why ≡ answer (cellChecks m c) (m .at c .code ∷ []) =
+        refused-values (cellChecks m c) why (m .at c .code ∷ []) (ap verdictSays (sym v) ∙ checked .says m e wf) in
+        (q ∙ part-zero w) ∙ rw (← a, some-number why);
+  }
 
   module _ (v : verdict ≡ Accepted) where
     -- the corners of the record, as many as the type has marks
@@ -72,14 +72,14 @@ module _ (w : List ℕ) (caps : Caps) (opens : Mesh caps ≡ opened w) (c : ℕ)
     pub handed-marks : (t n : ℕ) → t ≡ getD w (cellAt (caps .marks) c + 0) 0 → n ≡ shape t .marks → (r : List ℕ)
         → r ≡ partOf w (cellAt (caps .marks) c + 1) n → Handed w (λ m. marksPart m c) r
     unfolding marksPart typeAnswer verdictSays given
-    handed-marks t n word count r q = record
-        { refused = λ none. absurd (mesh none)
-        ; answers = λ m wf.
-            let e = wf-caps w m wf caps opens in
-            let a : given (m .at c .code ∷ []) ≡ answer (cellChecks m c) (m .at c .code ∷ []) =
-                given-values (cellChecks m c) (m .at c .code ∷ []) (cell-numbered m c) (ap verdictSays (sym v) ∙ checked .says m e wf) in
-            let below : c < caps .cells = omega (arith, cell-passed w caps verdict v m e wf c checked .0, cells-of caps m e) in
-            let code : t ≡ m .at c .code = word ∙ code-of caps m e w wf c below in
-            let size : n ≡ length (m .at c .marks) = count ∙ (ap (λ (k : ℕ). shape k .marks) code ∙ sym (wf .sound .fitting c)) in
-            (q ∙ (ap (partOf w (cellAt (caps .marks) c + 1)) size ∙ corners m e wf)) ∙ rw (← a)
-        }
+    handed-marks t n word count r q = record {
+      refused = λ none. absurd (mesh none);
+      answers = λ m wf.
+          let e = wf-caps w m wf caps opens in
+          let a : given (m .at c .code ∷ []) ≡ answer (cellChecks m c) (m .at c .code ∷ []) =
+          given-values (cellChecks m c) (m .at c .code ∷ []) (cell-numbered m c) (ap verdictSays (sym v) ∙ checked .says m e wf) in
+          let below : c < caps .cells = omega (arith, cell-passed w caps verdict v m e wf c checked .0, cells-of caps m e) in
+          let code : t ≡ m .at c .code = word ∙ code-of caps m e w wf c below in
+          let size : n ≡ length (m .at c .marks) = count ∙ (ap (λ (k : ℕ). shape k .marks) code ∙ sym (wf .sound .fitting c)) in
+          (q ∙ (ap (partOf w (cellAt (caps .marks) c + 1)) size ∙ corners m e wf)) ∙ rw (← a);
+    }

@@ -31,6 +31,7 @@ type-range t some = go (decLt 0 t) (decLt t 5)
   where
     zero-of : (0 < t → ⊥) → t ≡ 0
     zero-of f = omega arith
+
     go : Dec (0 < t) → Dec (t < 5) → (1 ≤ t) × (t ≤ 4)
     go (yes a) (yes b) = (a, omega arith)
     go (yes a) (no b) = absurd (some (ap (λ (s : Shape). s .dimension) (no-code t (omega arith))))

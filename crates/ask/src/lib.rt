@@ -11,7 +11,6 @@ ghost use Rattle.map.specs.Answers.{typeAnswer, marksPart, siblingAnswer, borde
 ghost use Rattle.map.specs.Paper.{valueSays, halfSays, truthSays, foundSays, stepSays};
 ghost use Rattle.ask.specs.Asked.{Asked, Handed};
 ghost use Rattle.ask.specs.Refusals.{noValue, noHalf, noTruth, noFound, noStep};
-
 use checks::check_cell;
 use checks::check_half;
 use checks::check_star;
@@ -64,14 +63,21 @@ pub fn marks_of(w: &[u32], c: Cell) -> &[u32]
         return part(w, 0, 0);
     }
     let count = mark_count(cell_word(w, caps, n, 0));
-    part(w, 16 + 8 * (caps.marks as usize) + 16 * (n as usize) + 1, count as usize)
+    part(
+        w,
+        16 + 8 * (caps.marks as usize) + 16 * (n as usize) + 1,
+        count as usize,
+    )
 }
 
 // The word that holds a facet's sibling.
 fn sibling_word(w: &[u32], caps: Caps, c: u32, f: u32) -> u32
     ensures { λ r. ⌜ r ≡ getD (now (w .entry)) (cellAt (caps .marks) c + (5 + f)) 0 ⌝ }
 {
-    word(w, 16 + 8 * (caps.marks as usize) + 16 * (c as usize) + (5 + (f as usize)))
+    word(
+        w,
+        16 + 8 * (caps.marks as usize) + 16 * (c as usize) + (5 + (f as usize)),
+    )
 }
 
 // The word that holds a mark's first anchor in a dimension.

@@ -44,9 +44,9 @@ module _ (caps : Caps) (s : State) (r : Ready caps s) where
 
   pub ready-linked : Linked caps s
   unfolding holds mapWith
-  ready-linked = record
-      { held = λ v c e. sym (r .chains v c) ∙ e
-      ; corners = λ c. omega (arith, r .sound .fitting c, four-marks (s .at c .code))
-      ; distinct = λ c. r .sound .distinct c
-      ; few = λ v. rw (chain-holders v) (r .sound .few v)
-      }
+  ready-linked = record {
+    held = λ v c e. sym (r .chains v c) ∙ e;
+    corners = λ c. omega (arith, r .sound .fitting c, four-marks (s .at c .code));
+    distinct = λ c. r .sound .distinct c;
+    few = λ v. rw (chain-holders v) (r .sound .few v);
+  }

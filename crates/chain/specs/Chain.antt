@@ -21,7 +21,7 @@ pub record Gathered (w : List ℕ) (caps : Caps) (v : ℕ) (o : List ℕ) (r : �
   pub few : r ≤ 128
   pub size : length o′ ≡ length o
   pub list : (s : State) → Pic w caps s → Linked caps s → v < caps .marks
-    → (r ≡ length (chainOf caps s v)) × (r ≤ length o → o′ ≡ chainOf caps s v ++ drop r o)
+      → (r ≡ length (chainOf caps s v)) × (r ≤ length o → o′ ≡ chainOf caps s v ++ drop r o)
 
 -- the cell c, whose corner k is the mark v, may go into the chain of v
 pub record MaySplice (caps : Caps) (v k c : ℕ) (s : State) : Type 0 where

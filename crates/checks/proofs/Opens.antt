@@ -33,7 +33,7 @@ module _ (w : List ℕ) where
   mesh-opened caps e = go (isMesh w) e
     where
       go : (b : Bool) → Mesh caps ≡ cond b (Mesh (record { marks = getD w 1 0; cells = getD w 2 0 })) Nothing
-        → (b ≡ true) × (caps ≡ record { marks = getD w 1 0; cells = getD w 2 0 })
+          → (b ≡ true) × (caps ≡ record { marks = getD w 1 0; cells = getD w 2 0 })
       go true e = (refl, cc)
       go false e = absurd (let z : _≡_ {A = ℕ} 0 1 = cc in omega arith)
 
@@ -43,25 +43,26 @@ module _ (w : List ℕ) where
     unfolding address wordOf headWords
     head-magic = wf .picture .words (Head 0) (omega arith)
 
-    head-marks : getD w 1 0 ≡ m .marks
+    pub head-marks : getD w 1 0 ≡ m .marks
     unfolding address wordOf headWords capsOf
     head-marks = wf .picture .words (Head 1) (omega arith)
 
-    head-cells : getD w 2 0 ≡ m .cells
+    pub head-cells : getD w 2 0 ≡ m .cells
     unfolding address wordOf headWords capsOf
     head-cells = wf .picture .words (Head 2) (omega arith)
 
     pub wf-mesh : isMesh w ≡ true
     unfolding isMesh capsOf room
     wf-mesh =
-        rw
-        ( le-leb 16 (length w) (omega (arith, wf .picture .fits))
-        , eq-eqb (getD w 0 0) magic head-magic
-        , head-marks
-        , head-cells
-        , le-leb (m .marks) 65535 (wf .picture .marks)
-        , le-leb (m .cells) 65535 (wf .picture .cells)
-        , le-leb (room (m .marks) (m .cells)) (length w) (wf .picture .fits))
+        rw (
+          le-leb 16 (length w) (omega (arith, wf .picture .fits)),
+          eq-eqb (getD w 0 0) magic head-magic,
+          head-marks,
+          head-cells,
+          le-leb (m .marks) 65535 (wf .picture .marks),
+          le-leb (m .cells) 65535 (wf .picture .cells),
+          le-leb (room (m .marks) (m .cells)) (length w) (wf .picture .fits),
+        )
 
     pub wf-caps : (caps : Caps) → Mesh caps ≡ opened w → capsOf m ≡ caps
     unfolding capsOf

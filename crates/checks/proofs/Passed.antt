@@ -53,9 +53,10 @@ module _ (w : List ℕ) (caps : Caps) (r : Verdict) (v : r ≡ Accepted) (m : Ma
   pub cell-passed : (c : ℕ) → Checked w caps (λ m. cellChecks m c) r → (c < m .cells) × (live m c ≡ true)
   unfolding cellChecks _when_ all
   cell-passed c k =
-      let p = accepted w caps (λ m. cellChecks m c) r k v m e wf (cell-numbered m c) in
-      ( leb-false (m .cells) c (not-true (leb (m .cells) c) (and-left (not (leb (m .cells) c)) (not (not (live m c)) && true) p))
-      , not-false (live m c) (not-true (not (live m c)) (and-left (not (not (live m c))) true (and-right (not (leb (m .cells) c)) (not (not (live m c)) && true) p))))
+      let p = accepted w caps (λ m. cellChecks m c) r k v m e wf (cell-numbered m c) in (
+        leb-false (m .cells) c (not-true (leb (m .cells) c) (and-left (not (leb (m .cells) c)) (not (not (live m c)) && true) p)),
+        not-false (live m c) (not-true (not (live m c)) (and-left (not (not (live m c))) true (and-right (not (leb (m .cells) c)) (not (not (live m c)) && true) p))),
+      )
 
   pub half-passed : (c f : ℕ) → Checked w caps (λ m. halfChecks m c f) r
       → (c < m .cells) × (live m c ≡ true) × (f < facetCount (m .at c .code))
@@ -63,20 +64,22 @@ module _ (w : List ℕ) (caps : Caps) (r : Verdict) (v : r ≡ Accepted) (m : Ma
   half-passed c f k =
       let p = accepted w caps (λ m. halfChecks m c f) r k v m e wf (half-numbered m c f) in
       let q = and-right (not (leb (m .cells) c)) (not (not (live m c)) && (not (leb (facetCount (m .at c .code)) f) && true)) p in
-      let l = and-right (not (not (live m c))) (not (leb (facetCount (m .at c .code)) f) && true) q in
-      ( leb-false (m .cells) c (not-true (leb (m .cells) c) (and-left (not (leb (m .cells) c)) (not (not (live m c)) && (not (leb (facetCount (m .at c .code)) f) && true)) p))
-      , not-false (live m c) (not-true (not (live m c)) (and-left (not (not (live m c))) (not (leb (facetCount (m .at c .code)) f) && true) q))
-      , leb-false (facetCount (m .at c .code)) f (not-true (leb (facetCount (m .at c .code)) f) (and-left (not (leb (facetCount (m .at c .code)) f)) true l)))
+      let l = and-right (not (not (live m c))) (not (leb (facetCount (m .at c .code)) f) && true) q in (
+        leb-false (m .cells) c (not-true (leb (m .cells) c) (and-left (not (leb (m .cells) c)) (not (not (live m c)) && (not (leb (facetCount (m .at c .code)) f) && true)) p)),
+        not-false (live m c) (not-true (not (live m c)) (and-left (not (not (live m c))) (not (leb (facetCount (m .at c .code)) f) && true) q)),
+        leb-false (facetCount (m .at c .code)) f (not-true (leb (facetCount (m .at c .code)) f) (and-left (not (leb (facetCount (m .at c .code)) f)) true l)),
+      )
 
   pub star-passed : (d u : ℕ) → Checked w caps (λ m. starChecks m d u) r → (1 ≤ d) × (d ≤ 3) × (u < m .marks)
   unfolding starChecks _when_ all
   star-passed d u k =
       let p = accepted w caps (λ m. starChecks m d u) r k v m e wf (star-numbered m d u) in
       let b = neither (ltb d 1) (ltb 3 d) (not-true (ltb d 1 || ltb 3 d) (and-left (not (ltb d 1 || ltb 3 d)) (not (leb (m .marks) u) && true) p)) in
-      let q = and-right (not (ltb d 1 || ltb 3 d)) (not (leb (m .marks) u) && true) p in
-      ( ltb-false d 1 (b .0)
-      , ltb-false 3 d (b .1)
-      , leb-false (m .marks) u (not-true (leb (m .marks) u) (and-left (not (leb (m .marks) u)) true q)))
+      let q = and-right (not (ltb d 1 || ltb 3 d)) (not (leb (m .marks) u) && true) p in (
+        ltb-false d 1 (b .0),
+        ltb-false 3 d (b .1),
+        leb-false (m .marks) u (not-true (leb (m .marks) u) (and-left (not (leb (m .marks) u)) true q)),
+      )
 
   pub type-passed : (t : ℕ) → Checked w caps (λ m. typeChecks t) r → shape t .dimension ≡ 0 → ⊥
   unfolding typeChecks _when_ all
@@ -90,7 +93,7 @@ module _ (w : List ℕ) (caps : Caps) (r : Verdict) (v : r ≡ Accepted) (m : Ma
   set-passed set k =
       let p = accepted w caps (λ m. setChecks m set) r k v m e wf (set-numbered m set) in
       let b = neither (ltb (length set) 1) (ltb 3 (length set)) (not-true (ltb (length set) 1 || ltb 3 (length set))
-            (and-left (not (ltb (length set) 1 || ltb 3 (length set))) (not (any (leb (m .marks)) set) && (not (repeats set) && true)) p)) in
+      (and-left (not (ltb (length set) 1 || ltb 3 (length set))) (not (any (leb (m .marks)) set) && (not (repeats set) && true)) p)) in
       let some : 0 < length set = ltb-false (length set) 1 (b .0) in
       let q = and-right (not (ltb (length set) 1 || ltb 3 (length set))) (not (any (leb (m .marks)) set) && (not (repeats set) && true)) p in
       let inside : any (leb (m .marks)) set ≡ false = not-true (any (leb (m .marks)) set) (and-left (not (any (leb (m .marks)) set)) (not (repeats set) && true) q) in

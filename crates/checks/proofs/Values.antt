@@ -41,7 +41,7 @@ refused-values [] r values e = absurd (omega (arith, number-some r, ap (λ (a : 
 refused-values (c ∷ cs) r values e = go (c .fails) e (refused-values cs r values)
   where
     go : (b : Bool) → refused r ≡ cond b (record { refusal = c .number; values = [] }) (answer cs [])
-      → (refused r ≡ answer cs [] → refused r ≡ answer cs values) → refused r ≡ cond b (record { refusal = c .number; values = [] }) (answer cs values)
+        → (refused r ≡ answer cs [] → refused r ≡ answer cs values) → refused r ≡ cond b (record { refusal = c .number; values = [] }) (answer cs values)
     go true e f = e
     go false e f = f e
 
@@ -53,8 +53,9 @@ given-values (c ∷ cs) values n e =
   where
     some : c .number ≡ 0 → ⊥
     some = eqb-false (c .number) 0 (not-true (eqb (c .number) 0) (and-left (not (eqb (c .number) 0)) (all (λ (c : Check). not (eqb (c .number) 0)) cs) n))
+
     go : (b : Bool) → given [] ≡ cond b (record { refusal = c .number; values = [] }) (answer cs []) → (given [] ≡ answer cs [] → given values ≡ answer cs values)
-      → given values ≡ cond b (record { refusal = c .number; values = [] }) (answer cs values)
+        → given values ≡ cond b (record { refusal = c .number; values = [] }) (answer cs values)
     go true e f = absurd (some (sym (ap (λ (a : Answer). a .refusal) e)))
     go false e f = f e
 
@@ -67,8 +68,9 @@ all-pass (c ∷ cs) n e =
   where
     some : c .number ≡ 0 → ⊥
     some = eqb-false (c .number) 0 (not-true (eqb (c .number) 0) (and-left (not (eqb (c .number) 0)) (all (λ (c : Check). not (eqb (c .number) 0)) cs) n))
+
     go : (b : Bool) → given [] ≡ cond b (record { refusal = c .number; values = [] }) (answer cs [])
-      → (given [] ≡ answer cs [] → all (λ (c : Check). not (c .fails)) cs ≡ true) → not b && all (λ (c : Check). not (c .fails)) cs ≡ true
+        → (given [] ≡ answer cs [] → all (λ (c : Check). not (c .fails)) cs ≡ true) → not b && all (λ (c : Check). not (c .fails)) cs ≡ true
     go true e f = absurd (some (sym (ap (λ (a : Answer). a .refusal) e)))
     go false e f = f e
 
@@ -79,7 +81,7 @@ refused-more [] more r values e = absurd (omega (arith, number-some r, ap (λ (a
 refused-more (c ∷ cs) more r values e = go (c .fails) e (refused-more cs more r values)
   where
     go : (b : Bool) → refused r ≡ cond b (record { refusal = c .number; values = [] }) (answer cs [])
-      → (refused r ≡ answer cs [] → refused r ≡ answer (cs ++ more) values) → refused r ≡ cond b (record { refusal = c .number; values = [] }) (answer (cs ++ more) values)
+        → (refused r ≡ answer cs [] → refused r ≡ answer (cs ++ more) values) → refused r ≡ cond b (record { refusal = c .number; values = [] }) (answer (cs ++ more) values)
     go true e f = e
     go false e f = f e
 
@@ -91,7 +93,8 @@ given-more (c ∷ cs) more values n e =
   where
     some : c .number ≡ 0 → ⊥
     some = eqb-false (c .number) 0 (not-true (eqb (c .number) 0) (and-left (not (eqb (c .number) 0)) (all (λ (c : Check). not (eqb (c .number) 0)) cs) n))
+
     go : (b : Bool) → given [] ≡ cond b (record { refusal = c .number; values = [] }) (answer cs []) → (given [] ≡ answer cs [] → answer more values ≡ answer (cs ++ more) values)
-      → answer more values ≡ cond b (record { refusal = c .number; values = [] }) (answer (cs ++ more) values)
+        → answer more values ≡ cond b (record { refusal = c .number; values = [] }) (answer (cs ++ more) values)
     go true e f = absurd (some (sym (ap (λ (a : Answer). a .refusal) e)))
     go false e f = f e

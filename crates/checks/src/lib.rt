@@ -5,7 +5,6 @@
 // (specs/Checked.antt). What a caller should know: memory that is no mesh is refused before, by `store::open`.
 ghost use Rattle.map.specs.Answers.{cellChecks, halfChecks, starChecks, setChecks, typeChecks};
 ghost use Rattle.checks.specs.Checked.{Checked};
-
 use lists::reaches;
 use lists::repeats;
 use map::Refusal;

@@ -2,7 +2,7 @@
 //
 // What is here: `copy_facet` writes the marks of a facet, `facet_has` tells whether it holds a mark, `matching` finds the facet
 // of a cell with a given set of marks. All are total on any memory. What is proved: each answer is that of specs/Facet.antt, on any
-// memory and any table; on the picture of a map these are the facets of the definitions (proofs/OnPicture.antt). What a caller should
+// memory and any table; on the picture of a map these are the facets of the definitions (crates/sibling/proofs/OnPicture.antt). What a caller should
 // know: the table is handed down, so that it is copied once a call.
 ghost use mathlib.Core.Path.{_≡_};
 ghost use mathlib.Core.List.{_++_};
@@ -13,7 +13,6 @@ ghost use Rattle.shapes.specs.Table.{entry};
 ghost use Rattle.store.specs.Layout.{cellAt};
 ghost use Rattle.facet.specs.Facet.{codeIn, cornerIn, sizeIn, facetIn, matchIn};
 ghost use Rattle.lists.specs.Filled.{Copied};
-
 use lists::same_set;
 use shapes::column;
 use shapes::facet_count;
@@ -27,7 +26,10 @@ use words::word;
 pub fn corner(w: &[u32], caps: Caps, c: u32, k: u32) -> u32
     ensures { λ r. ⌜ r ≡ cornerIn (now (w .entry)) caps c k ⌝ }
 {
-    word(w, 16 + 8 * (caps.marks as usize) + 16 * (c as usize) + (1 + (k as usize)))
+    word(
+        w,
+        16 + 8 * (caps.marks as usize) + 16 * (c as usize) + (1 + (k as usize)),
+    )
 }
 
 // How many corners the facet has.
@@ -39,7 +41,14 @@ pub fn facet_size(w: &[u32], caps: Caps, rows: &[[[u8; 5]; 6]; 5], c: u32, f: u3
 }
 
 // The marks of the facet, written to the first places of out; how many there are.
-pub fn copy_facet(w: &[u32], caps: Caps, rows: &[[[u8; 5]; 6]; 5], c: u32, f: u32, out: &mut [u32]) -> u32
+pub fn copy_facet(
+    w: &[u32],
+    caps: Caps,
+    rows: &[[[u8; 5]; 6]; 5],
+    c: u32,
+    f: u32,
+    out: &mut [u32],
+) -> u32
     ensures { λ r. ⌜ Copied (facetIn (now (w .entry)) caps (now (rows .entry)) c f) (now (out .entry)) r (now (out .exit)) ⌝ }
 {
     let t = cell_word(w, caps, c, 0);

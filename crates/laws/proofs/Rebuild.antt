@@ -246,7 +246,6 @@ unfoldable pub buildWords : List Live → List ℕ
 buildWords [] = []
 buildWords (x ∷ xs) = x .number ∷ x .body .code ∷ (x .body .marks ++ buildWords xs)
 
-
 -- a record that is accepted is made, and the build goes on behind it
 build-next : (n place : ℕ) (m : Mesh) (c t : ℕ) (marks words : List ℕ) → editAnswer (mapIn m) (Insert c t marks) .refusal ≡ 0
     → buildFrom (suc n) place m (c ∷ t ∷ (marks ++ words)) ≡ buildFrom n (suc place) (made m (Insert c t marks)) words

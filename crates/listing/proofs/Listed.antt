@@ -29,7 +29,9 @@ use Rattle.picture.specs.State.{capsOf}
 use Rattle.picture.specs.Picture.{Wf}
 use Rattle.checks.specs.Checked.{Checked}
 use Rattle.checks.proofs.Values.{Numbered, number-some, refused-more, given-more}
-use Rattle.map.specs.Stars.{star}
+use Rattle.map.specs.Stars.{star, anchors}
+use Rattle.shapes.specs.Table.{table}
+use Rattle.group.specs.Group.{Around}
 use Rattle.map.specs.Answers.{starChecks}
 use Rattle.picture.specs.State.{State, stateOf}
 use Rattle.picture.proofs.Settles.{wf-pic, wf-settled, wf-map}
@@ -46,33 +48,34 @@ listed-refused a why l o e = rw (← e, ne-eqb (numberOf why) 0 (λ z. omega (ar
 
 module _ (w : List ℕ) (checks : Map → List Check) (list : Map → List ℕ) (o : List ℕ) where
   pub listing-none : Nothing ≡ opened w → Listing w checks list o (Val.Refused NotMesh) o
-  listing-none e = record
-      { refused = λ _. refl
-      ; kept = λ why q. refl
-      ; answers = λ m wf. absurd (clash (wf-mesh w m wf) (nothing-opened w e))
-      }
+  listing-none e = record {
+    refused = λ _. refl;
+    kept = λ why q. refl;
+    answers = λ m wf. absurd (clash (wf-mesh w m wf) (nothing-opened w e));
+  }
 
   module _ (caps : Caps) (opens : Mesh caps ≡ opened w) (verdict : Verdict) (checked : Checked w caps checks verdict) where
     pub listing-refused : (why : Refusal) → verdict ≡ Refused why → Listing w checks list o (Val.Refused why) o
     unfolding listAnswer verdictSays valueSays
-    listing-refused why v = record
-        { refused = λ none. absurd (clash (mesh-opened w caps opens .0) none)
-        ; kept = λ other q. refl
-        ; answers = λ m wf.
-            let a = refused-more (checks m) ((12 when ltb (length o) (length (list m))) ∷ []) why (length (list m) ∷ [])
-                  (ap verdictSays (sym v) ∙ checked .says m (wf-caps w m wf caps opens) wf) in
-            (a, listed-refused (answer (checks m ++ ((12 when ltb (length o) (length (list m))) ∷ [])) (length (list m) ∷ [])) why (list m) o a)
-        }
+    listing-refused why v = record {
+      refused = λ none. absurd (clash (mesh-opened w caps opens .0) none);
+      kept = λ other q. refl;
+      answers = λ m wf.
+          let a = refused-more (checks m) ((12 when ltb (length o) (length (list m))) ∷ []) why (length (list m) ∷ [])
+          (ap verdictSays (sym v) ∙ checked .says m (wf-caps w m wf caps opens) wf) in
+          (a, listed-refused (answer (checks m ++ ((12 when ltb (length o) (length (list m))) ∷ [])) (length (list m) ∷ [])) why (list m) o a);
+    }
 
     module _ (v : verdict ≡ Accepted) (numbered : (m : Map) → Numbered (checks m)) (zeros from : List ℕ) (n : ℕ) (room : n ≤ length zeros)
         (lists : (m : Map) → capsOf m ≡ caps → Wf w m → Copied (list m) zeros n from) where
       -- the first n numbers are the list
       whole : (m : Map) → capsOf m ≡ caps → Wf w m → (n ≡ length (list m)) × (listOf n (λ i. getD from i 0) ≡ list m)
       whole m e wf =
-          let c = lists m e wf in
-          ( c .count
-          , listOf-take from n (omega (arith, c .filled .size))
-          ∙ rw (c .count) (filled-take (list m) zeros from (c .filled) (omega (arith, c .count))))
+          let c = lists m e wf in (
+            c .count,
+            listOf-take from n (omega (arith, c .filled .size))
+                ∙ rw (c .count) (filled-take (list m) zeros from (c .filled) (omega (arith, c .count))),
+          )
 
       behind : (m : Map) → Wf w m
           → answer ((12 when ltb (length o) (length (list m))) ∷ []) (length (list m) ∷ []) ≡ listAnswer (checks m) (list m) (length o)
@@ -83,19 +86,21 @@ module _ (w : List ℕ) (checks : Map → List Check) (list : Map → List ℕ) 
 
       pub listing-given : (r : Value) (o′ : List ℕ) → Given from n o r o′ → Listing w checks list o r o′
       unfolding _when_ answer valueSays refused given listed
-      listing-given r o′ g = record
-          { refused = λ none. absurd (clash (mesh-opened w caps opens .0) none)
-          ; kept = λ why q. keeps why q (decLt (length o) n)
-          ; answers = λ m wf. gives m wf (decLt (length o) n)
-          }
+      listing-given r o′ g = record {
+        refused = λ none. absurd (clash (mesh-opened w caps opens .0) none);
+        kept = λ why q. keeps why q (decLt (length o) n);
+        answers = λ m wf. gives m wf (decLt (length o) n);
+      }
         where
           never : (why : Refusal) → Val.Is n ≡ Val.Refused why → ⊥
           never why e = let z : _≡_ {A = ℕ} 0 1 = cc in omega arith
+
           keeps : (why : Refusal) → r ≡ Val.Refused why → Dec (length o < n) → o′ ≡ o
           keeps why q (yes h) = g .short h .1
           keeps why q (no f) = absurd (never why (sym (g .fits (omega arith) .0) ∙ q))
+
           gives : (m : Map) → Wf w m → Dec (length o < n)
-            → (valueSays r ≡ listAnswer (checks m) (list m) (length o)) × (o′ ≡ listed (listAnswer (checks m) (list m) (length o)) (list m) o)
+              → (valueSays r ≡ listAnswer (checks m) (list m) (length o)) × (o′ ≡ listed (listAnswer (checks m) (list m) (length o)) (list m) o)
           gives m wf (yes h) =
               let p = whole m (wf-caps w m wf caps opens) wf in
               let short : ltb (length o) (length (list m)) ≡ true = lt-ltb (length o) (length (list m)) (omega (arith, p .0)) in
@@ -117,3 +122,16 @@ pub star-lists : (w : List ℕ) (caps : Caps) (d v : ℕ) (verdict : Verdict) �
 star-lists w caps d v verdict k a zeros from n g m e wf =
     gives-list w caps 128 (AtMark caps v) (λ m. star m d v) zeros from n g m e wf
     (record { ready = wf-settled w caps m e wf .ready; mark = omega (arith, star-passed w caps verdict a m e wf d v k .2, marks-of caps m e) })
+
+-- the anchors of a mark that passed its checks
+pub anchors-list : (w : List ℕ) (caps : Caps) (d v : ℕ) (verdict : Verdict) → Checked w caps (λ m. starChecks m d v) verdict → verdict ≡ Accepted
+    → (rows : List (List (List ℕ))) → rows ≡ table
+    → (zeros from : List ℕ) (n : ℕ) → Gives w caps 128 (Around caps rows v) (λ m. anchors m d v) zeros n from
+    → (m : Map) → capsOf m ≡ caps → Wf w m → Copied (anchors m d v) zeros n from
+anchors-list w caps d v verdict k a rows t zeros from n g m e wf =
+    gives-list w caps 128 (Around caps rows v) (λ m. anchors m d v) zeros from n g m e wf
+    (record {
+      settled = wf-settled w caps m e wf;
+      types = t;
+      mark = omega (arith, star-passed w caps verdict a m e wf d v k .2, marks-of caps m e);
+    })

@@ -20,7 +20,7 @@ pub record Listing (w : List ℕ) (checks : Map → List Check) (list : Map → 
   pub refused : isMesh w ≡ false → r ≡ Refused NotMesh
   pub kept : (why : Refusal) → r ≡ Refused why → o′ ≡ o
   pub answers : (m : Map) → Wf w m
-    → (valueSays r ≡ listAnswer (checks m) (list m) (length o)) × (o′ ≡ listed (listAnswer (checks m) (list m) (length o)) (list m) o)
+      → (valueSays r ≡ listAnswer (checks m) (list m) (length o)) × (o′ ≡ listed (listAnswer (checks m) (list m) (length o)) (list m) o)
 
 -- the first n numbers of a list given out, or 12 where the output is shorter
 pub record Given (from : List ℕ) (n : ℕ) (o : List ℕ) (r : Value) (o′ : List ℕ) : Type 0 where

@@ -13,15 +13,15 @@ fill-start o = record { size = refl; wrote = λ _. refl }
 
 -- one more, written at the place behind the last
 pub fill-more : (l o o′ : List ℕ) (n x : ℕ) → Filled l o o′ → n ≡ length l → Filled (l ++ (x ∷ [])) o (set o′ n x)
-fill-more l o o′ n x f e = record
-    { size = length-set o′ n x ∙ f .size
-    ; wrote = λ h.
-        let size : length (l ++ (x ∷ [])) ≡ length l + 1 = length-append l (x ∷ []) in
-        let less : length l < length o = omega arith in
-        let was : o′ ≡ l ++ (getD o (length l) 0 ∷ drop (suc (length l)) o) = rw (← drop-cons o (length l) 0 less) (f .wrote (omega arith)) in
-        let behind : length (l ++ (x ∷ [])) ≡ suc (length l) = omega arith in
-        rw (was, e, set-at l (getD o (length l) 0) (drop (suc (length l)) o) x (length l) refl, append-assoc, behind) refl
-    }
+fill-more l o o′ n x f e = record {
+  size = length-set o′ n x ∙ f .size;
+  wrote = λ h.
+      let size : length (l ++ (x ∷ [])) ≡ length l + 1 = length-append l (x ∷ []) in
+      let less : length l < length o = omega arith in
+      let was : o′ ≡ l ++ (getD o (length l) 0 ∷ drop (suc (length l)) o) = rw (← drop-cons o (length l) 0 less) (f .wrote (omega arith)) in
+      let behind : length (l ++ (x ∷ [])) ≡ suc (length l) = omega arith in
+      rw (was, e, set-at l (getD o (length l) 0) (drop (suc (length l)) o) x (length l) refl, append-assoc, behind) refl;
+}
 
 -- what is filled stands first
 pub filled-take : (l o o′ : List ℕ) → Filled l o o′ → length l ≤ length o → take (length l) o′ ≡ l
@@ -34,10 +34,10 @@ length-listOf (suc n) f = length-append (listOf n f) (f n ∷ []) ∙ omega (ari
 
 -- one more, counted
 pub copy-more : (l o o′ o″ : List ℕ) (n x : ℕ) → Copied l o n o′ → o″ ≡ set o′ n x → Copied (l ++ (x ∷ [])) o (n + 1) o″
-copy-more l o o′ o″ n x f e = record
-    { count = omega (arith, length-append l (x ∷ []), f .count)
-    ; filled = rw e (fill-more l o o′ n x (f .filled) (f .count))
-    }
+copy-more l o o′ o″ n x f e = record {
+  count = omega (arith, length-append l (x ∷ []), f .count);
+  filled = rw e (fill-more l o o′ n x (f .filled) (f .count));
+}
 
 -- the first n of a list, read place by place
 pub listOf-take : (l : List ℕ) (n : ℕ) → n ≤ length l → listOf n (λ i. getD l i 0) ≡ take n l

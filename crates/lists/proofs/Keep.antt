@@ -72,7 +72,7 @@ keep-yes p [] x e = rw e
 keep-yes p (y ∷ ys) x e = go (p y) (keep-yes p ys x e)
   where
     go : (b : Bool) → keep p (ys ++ (x ∷ [])) ≡ keep p ys ++ (x ∷ [])
-      → cond b (y ∷ keep p (ys ++ (x ∷ []))) (keep p (ys ++ (x ∷ []))) ≡ cond b (y ∷ keep p ys) (keep p ys) ++ (x ∷ [])
+        → cond b (y ∷ keep p (ys ++ (x ∷ []))) (keep p (ys ++ (x ∷ []))) ≡ cond b (y ∷ keep p ys) (keep p ys) ++ (x ∷ [])
     go true q = ap (_∷_ y) q
     go false q = q
 
@@ -82,6 +82,6 @@ keep-no p [] x e = rw e
 keep-no p (y ∷ ys) x e = go (p y) (keep-no p ys x e)
   where
     go : (b : Bool) → keep p (ys ++ (x ∷ [])) ≡ keep p ys
-      → cond b (y ∷ keep p (ys ++ (x ∷ []))) (keep p (ys ++ (x ∷ []))) ≡ cond b (y ∷ keep p ys) (keep p ys)
+        → cond b (y ∷ keep p (ys ++ (x ∷ []))) (keep p (ys ++ (x ∷ []))) ≡ cond b (y ∷ keep p ys) (keep p ys)
     go true q = ap (_∷_ y) q
     go false q = q

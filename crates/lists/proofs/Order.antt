@@ -149,8 +149,10 @@ first-select d p n k h e before = go (eq-or-lt-of-le {n = first d (select p n)} 
   where
     in-k : has k (select p n) ≡ true
     in-k = select-has p n k h ∙ e
+
     least : first d (select p n) ≤ k
     least = first-least d (select p n) (select-ascends p n) k in-k
+
     go : (first d (select p n) ≡ k) ⊎ (first d (select p n) < k) → first d (select p n) ≡ k
     go (inl q) = q
     go (inr less) = absurd (clash (select-out p n (first d (select p n)) (first-has d (select p n) k in-k) .1) (before (first d (select p n)) less))

@@ -38,38 +38,38 @@ edited-kept m e why q = rw (← q, ne-eqb (numberOf why) 0 (λ z. omega (arith, 
 
 module _ (w : List ℕ) (e : Edit) where
   pub edited-none : Nothing ≡ opened w → Edited w e (Refused NotMesh) w
-  edited-none q = record
-      { refused = λ _. refl
-      ; kept = λ why z. refl
-      ; inside = only-none
-      ; answers = λ m wf. absurd (clash (wf-mesh w m wf) (nothing-opened w q))
-      }
+  edited-none q = record {
+    refused = λ _. refl;
+    kept = λ why z. refl;
+    inside = only-none;
+    answers = λ m wf. absurd (clash (wf-mesh w m wf) (nothing-opened w q));
+  }
 
   module _ (caps : Caps) (opens : Mesh caps ≡ opened w) (checks : Map → List Check) (says : (m : Map) → editAnswer m e ≡ answer (checks m) []) (verdict : Verdict)
       (checked : Checked w caps checks verdict) where
     pub edited-refused : (why : Refusal) → verdict ≡ Refused why → Edited w e (Refused why) w
     unfolding verdictSays
-    edited-refused why v = record
-        { refused = λ none. absurd (clash (mesh-opened w caps opens .0) none)
-        ; kept = λ other z. refl
-        ; inside = only-none
-        ; answers = λ m wf.
-            let q : refused why ≡ editAnswer m e = ap verdictSays (sym v) ∙ (checked .says m (wf-caps w m wf caps opens) wf ∙ sym (says m)) in
-            (q, subst (λ (k : Map). Wf w k) (sym (edited-kept m e why q)) wf)
-        }
+    edited-refused why v = record {
+      refused = λ none. absurd (clash (mesh-opened w caps opens .0) none);
+      kept = λ other z. refl;
+      inside = only-none;
+      answers = λ m wf.
+          let q : refused why ≡ editAnswer m e = ap verdictSays (sym v) ∙ (checked .says m (wf-caps w m wf caps opens) wf ∙ sym (says m)) in
+          (q, subst (λ (k : Map). Wf w k) (sym (edited-kept m e why q)) wf);
+    }
 
     pub edited-made : verdict ≡ Accepted → (w′ : List ℕ) → Made caps w w′ e → Edited w e Accepted w′
     unfolding verdictSays given
-    edited-made v w′ made = record
-        { refused = λ none. absurd (clash (mesh-opened w caps opens .0) none)
-        ; kept = λ why z. absurd (never why z)
-        ; inside = subst (λ (k : Caps). Only (λ i. i < room (k .marks) (k .cells)) w w′) (mesh-opened w caps opens .1) (made .inside)
-        ; answers = λ m wf.
-            let c = wf-caps w m wf caps opens in
-            let q : given [] ≡ editAnswer m e = ap verdictSays (sym v) ∙ (checked .says m c wf ∙ sym (says m)) in
-            let ok : editAnswer m e .refusal ≡ 0 = ap (λ (a : Answer). a .refusal) (sym q) in
-            (q, subst (λ (k : Map). Wf w′ k) (sym (edited-changed m e ok)) (made .wf m c wf ok))
-        }
+    edited-made v w′ made = record {
+      refused = λ none. absurd (clash (mesh-opened w caps opens .0) none);
+      kept = λ why z. absurd (never why z);
+      inside = subst (λ (k : Caps). Only (λ i. i < room (k .marks) (k .cells)) w w′) (mesh-opened w caps opens .1) (made .inside);
+      answers = λ m wf.
+          let c = wf-caps w m wf caps opens in
+          let q : given [] ≡ editAnswer m e = ap verdictSays (sym v) ∙ (checked .says m c wf ∙ sym (says m)) in
+          let ok : editAnswer m e .refusal ≡ 0 = ap (λ (a : Answer). a .refusal) (sym q) in
+          (q, subst (λ (k : Map). Wf w′ k) (sym (edited-changed m e ok)) (made .wf m c wf ok));
+    }
       where
         never : (why : Refusal) → Accepted ≡ Refused why → ⊥
         never why z = let o : _≡_ {A = ℕ} 0 1 = cc in omega arith

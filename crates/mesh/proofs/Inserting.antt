@@ -37,12 +37,12 @@ type-count w m wf t a b =
 module _ (caps : Caps) (c t : ℕ) (marks : List ℕ) (rows : List (List (List ℕ))) (types : rows ≡ table) (w : List ℕ) (count : ℕ) (word : count ≡ getD w (4 + t) 0) where
   -- a count that no mesh has
   pub insert-none : 65535 < count → Made caps w w (Insert c t marks)
-  insert-none h = record
-      { inside = only-none
-      ; wf = λ m e wf ok.
-          let r = may-count m (wf .sound) c t marks (may-insert m c t marks ok) in
-          absurd (omega (arith, type-count w m wf t (r .0) (r .1) .1))
-      }
+  insert-none h = record {
+    inside = only-none;
+    wf = λ m e wf ok.
+        let r = may-count m (wf .sound) c t marks (may-insert m c t marks ok) in
+        absurd (omega (arith, type-count w m wf t (r .0) (r .1) .1));
+  }
 
   -- record, chains, what is around, count
   pub insert-made : (w₁ w₂ w₃ w₄ : List ℕ)
@@ -51,10 +51,10 @@ module _ (caps : Caps) (c t : ℕ) (marks : List ℕ) (rows : List (List (List �
       → Step caps w₂ w₃ (MaySettle caps rows t marks) (settled caps)
       → Step caps w₃ w₄ (λ s. (1 ≤ t) × (t ≤ 4)) (λ s. withCount s t (count + 1))
       → Made caps w w₄ (Insert c t marks)
-  insert-made w₁ w₂ w₃ w₄ p₁ p₂ p₃ p₄ = record
-      { inside = only-then (p₁ .inside) (only-then (p₂ .inside) (only-then (p₃ .inside) (p₄ .inside)))
-      ; wf = λ m e wf ok. made m e wf (may-insert m c t marks ok)
-      }
+  insert-made w₁ w₂ w₃ w₄ p₁ p₂ p₃ p₄ = record {
+    inside = only-then (p₁ .inside) (only-then (p₂ .inside) (only-then (p₃ .inside) (p₄ .inside)));
+    wf = λ m e wf ok. made m e wf (may-insert m c t marks ok);
+  }
     where
       made : (m : Map) → capsOf m ≡ caps → Wf w m → MayInsert m c t marks → Wf w₄ (changed m (Insert c t marks))
       made m e wf r =

@@ -2,3 +2,4 @@
 pub mod Inserting
 pub mod Answering
 pub mod Removing
+pub mod Evening

@@ -47,15 +47,15 @@ remove-says m c = refl
 module _ (caps : Caps) (c t : ℕ) (marks : List ℕ) (rows : List (List (List ℕ))) (types : rows ≡ table) (w : List ℕ) (count : ℕ) (word : count ≡ getD w (4 + t) 0) where
   -- no live cell of the type: then the cell is none
   pub remove-none : count ≡ 0 → TakenOut caps w w c t marks
-  remove-none z = record
-      { inside = only-none
-      ; wf = λ m e wf ok q h.
-          let r = may-remove m c ok in
-          let a = may-count m (wf .sound) c r in
-          let n : getD w (4 + m .at c .code) 0 ≡ length (cellsOf m (m .at c .code)) = type-count w m wf (m .at c .code) (a .0) (a .1) .0 in
-          let same : getD w (4 + t) 0 ≡ getD w (4 + m .at c .code) 0 = ap (λ (k : ℕ). getD w (4 + k) 0) q in
-          absurd (omega (arith, n, same, count-remove m (wf .sound) c r))
-      }
+  remove-none z = record {
+    inside = only-none;
+    wf = λ m e wf ok q h.
+        let r = may-remove m c ok in
+        let a = may-count m (wf .sound) c r in
+        let n : getD w (4 + m .at c .code) 0 ≡ length (cellsOf m (m .at c .code)) = type-count w m wf (m .at c .code) (a .0) (a .1) .0 in
+        let same : getD w (4 + t) 0 ≡ getD w (4 + m .at c .code) 0 = ap (λ (k : ℕ). getD w (4 + k) 0) q in
+        absurd (omega (arith, n, same, count-remove m (wf .sound) c r));
+  }
 
   -- chains, record, siblings, what is around, count
   pub remove-made : (none : List ℕ) (w₁ w₂ w₃ w₄ w₅ : List ℕ) → none ≡ partOf marks 0 0
@@ -66,13 +66,14 @@ module _ (caps : Caps) (c t : ℕ) (marks : List ℕ) (rows : List (List (List �
       → Step caps w₄ w₅ (λ s. (1 ≤ t) × (t ≤ 4)) (λ s. withCount s t (count - 1))
       → TakenOut caps w w₅ c t marks
   unfolding noCell capsOf
-  remove-made none w₁ w₂ w₃ w₄ w₅ empty p₁ p₂ p₃ p₄ p₅ = record
-      { inside = only-then (p₁ .inside) (only-then (p₂ .inside) (only-then (p₃ .inside) (only-then (p₄ .inside) (p₅ .inside))))
-      ; wf = λ m e wf ok q h. made m e wf (may-remove m c ok) q h
-      }
+  remove-made none w₁ w₂ w₃ w₄ w₅ empty p₁ p₂ p₃ p₄ p₅ = record {
+    inside = only-then (p₁ .inside) (only-then (p₂ .inside) (only-then (p₃ .inside) (only-then (p₄ .inside) (p₅ .inside))));
+    wf = λ m e wf ok q h. made m e wf (may-remove m c ok) q h;
+  }
     where
       nothing : none ≡ []
       nothing = empty ∙ part-fits marks 0 0 (omega arith)
+
       made : (m : Map) → capsOf m ≡ caps → Wf w m → MayRemove m c → t ≡ m .at c .code → marks ≡ m .at c .marks → Wf w₅ (changed m (Remove c))
       made m e wf r q h =
           let a = may-count m (wf .sound) c r in
@@ -92,31 +93,34 @@ module _ (w : List ℕ) (caps : Caps) (c : ℕ) (zeros held : List ℕ) (filled 
       part-fits held 0 (length (m .at c .marks)) (omega (arith, size, few))
       ∙ ext-getD 0 (take (length (m .at c .marks)) held) (m .at c .marks) (length-take-le (length (m .at c .marks)) held (omega (arith, size, few)))
       (λ j h.
-        let less : j < length (m .at c .marks) = omega (arith, length-take-le (length (m .at c .marks)) held (omega (arith, size, few))) in
-        getD-take (length (m .at c .marks)) held j 0 less
-        ∙ (ap (λ (l : List ℕ). getD l j 0) whole
-        ∙ (List·getD-append (listOf 4 (cornerIn w caps c)) (drop (length (listOf 4 (cornerIn w caps c))) zeros) 0 j (omega (arith, count, few, less))
-        ∙ (list-at 4 (cornerIn w caps c) j 0 (omega (arith, few, less)) ∙ corner-read w caps (stateOf m) (wf-pic w caps m e wf) c below j (omega (arith, few, less))))))
+      let less : j < length (m .at c .marks) = omega (arith, length-take-le (length (m .at c .marks)) held (omega (arith, size, few))) in
+      getD-take (length (m .at c .marks)) held j 0 less
+      ∙ (ap (λ (l : List ℕ). getD l j 0) whole
+      ∙ (List·getD-append (listOf 4 (cornerIn w caps c)) (drop (length (listOf 4 (cornerIn w caps c))) zeros) 0 j (omega (arith, count, few, less))
+      ∙ (list-at 4 (cornerIn w caps c) j 0 (omega (arith, few, less)) ∙ corner-read w caps (stateOf m) (wf-pic w caps m e wf) c below j (omega (arith, few, less))))))
     where
       few : length (m .at c .marks) ≤ 4
       few = omega (arith, wf .sound .fitting c, four-marks (m .at c .code))
+
       count : length (listOf 4 (cornerIn w caps c)) ≡ 4
       count = length-listOf 4 (cornerIn w caps c)
+
       size : length held ≡ 4
       size = filled .size ∙ four
+
       whole : held ≡ listOf 4 (cornerIn w caps c) ++ drop (length (listOf 4 (cornerIn w caps c))) zeros
       whole = filled .wrote (omega (arith, count, four))
 
   pub remove-by-record : (t n : ℕ) (marks w′ : List ℕ) → t ≡ getD w (cellAt (caps .marks) c + 0) 0 → n ≡ shape t .marks → marks ≡ partOf held 0 n
       → TakenOut caps w w′ c t marks → Made caps w w′ (Remove c)
-  remove-by-record t n marks w′ word size part out = record
-      { inside = out .inside
-      ; wf = λ m e wf ok.
-          let below : c < caps .cells = omega (arith, may-remove m c ok .number, cells-of caps m e) in
-          let code : t ≡ m .at c .code = word ∙ code-of caps m e w wf c below in
-          let count : n ≡ length (m .at c .marks) = size ∙ (ap (λ (k : ℕ). shape k .marks) code ∙ sym (wf .sound .fitting c)) in
-          out .wf m e wf ok code (part ∙ (ap (partOf held 0) count ∙ held-marks m e wf below))
-      }
+  remove-by-record t n marks w′ word size part out = record {
+    inside = out .inside;
+    wf = λ m e wf ok.
+        let below : c < caps .cells = omega (arith, may-remove m c ok .number, cells-of caps m e) in
+        let code : t ≡ m .at c .code = word ∙ code-of caps m e w wf c below in
+        let count : n ≡ length (m .at c .marks) = size ∙ (ap (λ (k : ℕ). shape k .marks) code ∙ sym (wf .sound .fitting c)) in
+        out .wf m e wf ok code (part ∙ (ap (partOf held 0) count ∙ held-marks m e wf below));
+  }
 
 pub copied-four : (g : ℕ → ℕ) (o o′ : List ℕ) (k : ℕ) → Filled (listOf k g) o o′ → k ≤ 4 → 4 ≤ k → Filled (listOf 4 g) o o′
 copied-four g o o′ k f a b = let e : k ≡ 4 = omega arith in rw e at f

@@ -9,7 +9,6 @@ ghost use Rattle.lists.specs.Lists.{listOf};
 ghost use Rattle.lists.specs.Filled.{Filled};
 ghost use Rattle.facet.specs.Facet.{cornerIn};
 ghost use Rattle.mesh.specs.Edited.{Edited, TakenOut};
-
 use admit::check_insert;
 use checks::check_cell;
 use edit::clear_siblings;

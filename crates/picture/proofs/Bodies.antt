@@ -102,6 +102,7 @@ module _ (caps : Caps) (s : State) (c : ℕ) (loose : (v : ℕ) → s .chain v c
     where
       lists : cornersOf s c b′ ≡ cornersOf s c b
       lists = rw (code, corners 0 (omega arith), corners 1 (omega arith), corners 2 (omega arith), corners 3 (omega arith))
+
       alike : (k : ℕ) → getD (cornersOf s c b′) k 0 ≡ getD (cornersOf s c b) k 0
       alike k = ap (λ (l : List ℕ). getD l k 0) lists
 
@@ -182,11 +183,13 @@ module _ (caps : Caps) (s : State) (c : ℕ) (marks : List ℕ) where
     where
       here : getD (cornersOf s c (mixedBody s c marks (k + 1))) (1 + k) 0 ≡ getD marks k 0
       here = corner-at s c (mixedBody s c marks (k + 1)) k hk ∙ (mixed-at (corner s c) marks (k + 1) k hk ∙ rw (lt-ltb k (k + 1) (omega arith)))
+
       same : (i : ℕ) → i < 4 → (1 + i ≡ 1 + k → ⊥)
-        → getD (mixed (corner s c) marks (k + 1)) i 0 ≡ getD (mixed (corner s c) marks k) i 0
+          → getD (mixed (corner s c) marks (k + 1)) i 0 ≡ getD (mixed (corner s c) marks k) i 0
       same i h ne =
           mixed-at (corner s c) marks (k + 1) i h
           ∙ (mixed-next (corner s c) marks k i (λ e. ne (ap (λ (n : ℕ). 1 + n) e)) ∙ sym (mixed-at (corner s c) marks k i h))
+
       others : (j : ℕ) → (j ≡ 1 + k → ⊥) → getD (cornersOf s c (mixedBody s c marks (k + 1))) j 0 ≡ getD (cornersOf s c (mixedBody s c marks k)) j 0
       others zero ne = refl
       others (suc zero) ne = same 0 (omega arith) ne
@@ -220,16 +223,16 @@ module _ (caps : Caps) (c : ℕ) (marks w : List ℕ) where
 
   pub written-more : (w′ w″ : List ℕ) (k x : ℕ) → Written caps c marks w w′ k → x ≡ getD marks k 0 → w″ ≡ setCell w′ caps c (1 + k) x → k < 4
       → Written caps c marks w w″ (k + 1)
-  written-more w′ w″ k x p v e h = record
-      { inside = rw e (only-then (p .inside) (cell-only w′ caps c (1 + k) x))
-      ; state = λ s q m. rw (e, v) (mixed-more caps s c marks w′ k (m .loose) (m .cell) h (p .state s q m))
-      }
+  written-more w′ w″ k x p v e h = record {
+    inside = rw e (only-then (p .inside) (cell-only w′ caps c (1 + k) x));
+    state = λ s q m. rw (e, v) (mixed-more caps s c marks w′ k (m .loose) (m .cell) h (p .state s q m));
+  }
 
   pub written-done : (w′ w″ : List ℕ) (k t : ℕ) → Written caps c marks w w′ k → w″ ≡ setCell w′ caps c 0 t → k ≤ 4 → 4 ≤ k
       → Step caps w w″ (MayWrite caps c marks) (λ s. withBody s c (record { code = t; marks = marks }))
-  written-done w′ w″ k t p e a b = record
-      { inside = rw e (only-then (p .inside) (cell-only w′ caps c 0 t))
-      ; state = λ s q m.
-          let four : k ≡ 4 = omega arith in
-          rw e (mixed-done caps s c marks w′ t (m .loose) (m .cell) (rw four at (p .state s q m)))
-      }
+  written-done w′ w″ k t p e a b = record {
+    inside = rw e (only-then (p .inside) (cell-only w′ caps c 0 t));
+    state = λ s q m.
+        let four : k ≡ 4 = omega arith in
+        rw e (mixed-done caps s c marks w′ t (m .loose) (m .cell) (rw four at (p .state s q m)));
+  }

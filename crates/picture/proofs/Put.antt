@@ -21,18 +21,19 @@ module _ (w : List ℕ) (caps : Caps) (s s′ : State) (x : Slot) (y : ℕ) wher
   pub pic-put : Pic w caps s → Within (caps .marks) (caps .cells) x → wordOf caps s′ x ≡ y
       → ((z : Slot) → Within (caps .marks) (caps .cells) z → (z ≡ x → ⊥) → wordOf caps s′ z ≡ wordOf caps s z)
       → Pic (set w (address (caps .marks) (caps .cells) x) y) caps s′
-  pic-put p in-x e same = record
-      { marks = p .marks
-      ; cells = p .cells
-      ; fits = omega (arith, p .fits, length-set w (address (caps .marks) (caps .cells) x) y)
-      ; words = λ z in-z. at z in-z (ℕ-discrete (address (caps .marks) (caps .cells) z) (address (caps .marks) (caps .cells) x))
-      }
+  pic-put p in-x e same = record {
+    marks = p .marks;
+    cells = p .cells;
+    fits = omega (arith, p .fits, length-set w (address (caps .marks) (caps .cells) x) y);
+    words = λ z in-z. at z in-z (ℕ-discrete (address (caps .marks) (caps .cells) z) (address (caps .marks) (caps .cells) x));
+  }
     where
       below : address (caps .marks) (caps .cells) x < length w
       below = omega (arith, slot-below (caps .marks) (caps .cells) x in-x, p .fits)
+
       at : (z : Slot) → Within (caps .marks) (caps .cells) z
-        → Dec (address (caps .marks) (caps .cells) z ≡ address (caps .marks) (caps .cells) x)
-        → getD (set w (address (caps .marks) (caps .cells) x) y) (address (caps .marks) (caps .cells) z) 0 ≡ wordOf caps s′ z
+          → Dec (address (caps .marks) (caps .cells) z ≡ address (caps .marks) (caps .cells) x)
+          → getD (set w (address (caps .marks) (caps .cells) x) y) (address (caps .marks) (caps .cells) z) 0 ≡ wordOf caps s′ z
       at z in-z (yes q) =
           ap (λ (i : ℕ). getD (set w (address (caps .marks) (caps .cells) x) y) i 0) q
           ∙ (read-same w (address (caps .marks) (caps .cells) x) y below
@@ -52,11 +53,12 @@ pub pic-one : (w w′ : List ℕ) (caps : Caps) (s : State) → Pic w caps s →
 pic-one w w′ caps s p q =
     ext-getD 0 (take n w) (take n w′) (length-take-le n w (p .fits) ∙ sym (length-take-le n w′ (q .fits)))
     (λ i h.
-      let less : i < n = omega (arith, length-take-le n w (p .fits)) in
-      getD-take n w i 0 less ∙ (word i less ∙ sym (getD-take n w′ i 0 less)))
+    let less : i < n = omega (arith, length-take-le n w (p .fits)) in
+    getD-take n w i 0 less ∙ (word i less ∙ sym (getD-take n w′ i 0 less)))
   where
     n : ℕ
     n = room (caps .marks) (caps .cells)
+
     word : (i : ℕ) → i < n → getD w i 0 ≡ getD w′ i 0
     word i h =
         let x = slot-of (caps .marks) (caps .cells) i h in

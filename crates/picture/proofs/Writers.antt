@@ -70,6 +70,7 @@ module _ (caps : Caps) (s : State) (d v x : ℕ) where
           go true p true q = absurd (f (ap₂ Mark (sym (eqb-true v u q)) (ap (λ (n : ℕ). 1 + n) (sym (eqb-true d e p)))))
           go true p false q = refl
           go false p t q = refl
+
       at : (k : ℕ) → (Mark u k ≡ Mark v (1 + d) → ⊥) → getD (markWords caps (withAnc s d v x) u) k 0 ≡ getD (markWords caps s u) k 0
       at zero f = refl
       at (suc zero) f = refl
@@ -90,14 +91,14 @@ count-here s t x = rw (eq-eqb t t refl)
 pub anchor-step : (caps : Caps) (w w′ : List ℕ) (d v x : ℕ) → w′ ≡ setMark w caps v (1 + d) x
     → Step caps w w′ (λ s. (v < caps .marks) × (1 ≤ d) × (d ≤ 3)) (λ s. withAnc s d v x)
 unfolding address
-anchor-step caps w w′ d v x e = record
-    { inside = rw e (mark-only w caps v (1 + d) x)
-    ; state = λ s p k.
-        rw (e, mark-in w caps v (1 + d) x (k .0) (omega arith))
-        (pic-put w caps s (withAnc s d v x) (Mark v (1 + d)) x p (k .0, omega arith)
-        (anchor-word caps (withAnc s d v x) d v x v d (k .1) (k .2) ∙ anc-here s d v x)
-        (λ z in-z ne. anchor-other caps s d v x (k .1) (k .2) z ne))
-    }
+anchor-step caps w w′ d v x e = record {
+  inside = rw e (mark-only w caps v (1 + d) x);
+  state = λ s p k.
+      rw (e, mark-in w caps v (1 + d) x (k .0) (omega arith))
+      (pic-put w caps s (withAnc s d v x) (Mark v (1 + d)) x p (k .0, omega arith)
+      (anchor-word caps (withAnc s d v x) d v x v d (k .1) (k .2) ∙ anc-here s d v x)
+      (λ z in-z ne. anchor-other caps s d v x (k .1) (k .2) z ne));
+}
 
 module _ (caps : Caps) (s : State) (t x : ℕ) where
   count-other : (z : Slot) → (z ≡ Head (4 + t) → ⊥) → wordOf caps (withCount s t x) z ≡ wordOf caps s z
@@ -113,6 +114,7 @@ module _ (caps : Caps) (s : State) (t x : ℕ) where
           go : (p : Bool) → eqb t u ≡ p → cond p x (s .count u) ≡ s .count u
           go true p = absurd (f (ap (λ (n : ℕ). Head (4 + n)) (sym (eqb-true t u p))))
           go false p = refl
+
       at : (k : ℕ) → (Head k ≡ Head (4 + t) → ⊥) → getD (headWords caps (withCount s t x)) k 0 ≡ getD (headWords caps s) k 0
       at zero f = refl
       at (suc zero) f = refl
@@ -140,10 +142,10 @@ module _ (caps : Caps) (s : State) (t x : ℕ) where
 pub count-step : (caps : Caps) (w w′ : List ℕ) (t x : ℕ) → 1 ≤ t → t ≤ 4 → w′ ≡ set w (4 + t) x
     → Step caps w w′ (λ s. (1 ≤ t) × (t ≤ 4)) (λ s. withCount s t x)
 unfolding address
-count-step caps w w′ t x a b e = record
-    { inside = rw e (only-put w (4 + t) x (slot-below (caps .marks) (caps .cells) (Head (4 + t)) (omega arith)))
-    ; state = λ s p k.
-        rw e
-        (pic-put w caps s (withCount s t x) (Head (4 + t)) x p (omega arith) (count-word caps (withCount s t x) t x a b ∙ count-here s t x)
-        (λ z in-z ne. count-other caps s t x z ne))
-    }
+count-step caps w w′ t x a b e = record {
+  inside = rw e (only-put w (4 + t) x (slot-below (caps .marks) (caps .cells) (Head (4 + t)) (omega arith)));
+  state = λ s p k.
+      rw e
+      (pic-put w caps s (withCount s t x) (Head (4 + t)) x p (omega arith) (count-word caps (withCount s t x) t x a b ∙ count-here s t x)
+      (λ z in-z ne. count-other caps s t x z ne));
+}

@@ -10,25 +10,25 @@ withBody s c b = record { at = λ k. cond (eqb c k) b (s .at k); chain = s .chai
 
 -- cell c in the chain of mark v, or out of it
 unfoldable pub withLink : State → ℕ → ℕ → Bool → State
-withLink s v c on = record
-    { at = s .at
-    ; chain = λ u k. cond (eqb v u && eqb c k) on (s .chain u k)
-    ; sib = s .sib
-    ; anc = s .anc
-    ; count = s .count
-    }
+withLink s v c on = record {
+  at = s .at;
+  chain = λ u k. cond (eqb v u && eqb c k) on (s .chain u k);
+  sib = s .sib;
+  anc = s .anc;
+  count = s .count;
+}
 
 unfoldable pub withSib : State → ℕ → ℕ → State
 withSib s h x = record { at = s .at; chain = s .chain; sib = λ k. cond (eqb h k) x (s .sib k); anc = s .anc; count = s .count }
 
 unfoldable pub withAnc : State → ℕ → ℕ → ℕ → State
-withAnc s d v x = record
-    { at = s .at
-    ; chain = s .chain
-    ; sib = s .sib
-    ; anc = λ e u. cond (eqb d e && eqb v u) x (s .anc e u)
-    ; count = s .count
-    }
+withAnc s d v x = record {
+  at = s .at;
+  chain = s .chain;
+  sib = s .sib;
+  anc = λ e u. cond (eqb d e && eqb v u) x (s .anc e u);
+  count = s .count;
+}
 
 unfoldable pub withCount : State → ℕ → ℕ → State
 withCount s t x = record { at = s .at; chain = s .chain; sib = s .sib; anc = s .anc; count = λ k. cond (eqb t k) x (s .count k) }

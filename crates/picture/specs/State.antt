@@ -34,10 +34,10 @@ unfoldable pub mapWith : Caps → State → Map
 mapWith caps s = record { marks = caps .marks; cells = caps .cells; at = s .at }
 
 unfoldable pub stateOf : Map → State
-stateOf m = record
-    { at = m .at
-    ; chain = holds m
-    ; sib = λ h. cond (isHalf m h) (sibling m h) 0
-    ; anc = λ d v. next (anchors m d v)
-    ; count = λ t. length (cellsOf m t)
-    }
+stateOf m = record {
+  at = m .at;
+  chain = holds m;
+  sib = λ h. cond (isHalf m h) (sibling m h) 0;
+  anc = λ d v. next (anchors m d v);
+  count = λ t. length (cellsOf m t);
+}

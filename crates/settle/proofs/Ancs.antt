@@ -39,8 +39,8 @@ module _ (caps : Caps) (s : State) where
       rw (ne-eqb v u ne) (go (eqb 3 d) (eqb 2 d) (eqb 1 d))
     where
       go : (p q r : Bool) → cond (p && false) (stateOf (mapWith caps s) .anc 3 v)
-        (cond (q && false) (stateOf (mapWith caps s) .anc 2 v) (cond (r && false) (stateOf (mapWith caps s) .anc 1 v) (s′ .anc d u)))
-        ≡ s′ .anc d u
+          (cond (q && false) (stateOf (mapWith caps s) .anc 2 v) (cond (r && false) (stateOf (mapWith caps s) .anc 1 v) (s′ .anc d u)))
+          ≡ s′ .anc d u
       go true true true = refl
       go true true false = refl
       go true false true = refl
@@ -52,13 +52,13 @@ module _ (caps : Caps) (s : State) where
 
   pub ancs-more : (s′ : State) (v : ℕ) (marks : List ℕ) → Ancs caps s s′ (v ∷ marks) → Ancs caps s (threeAncs caps s s′ v) marks
   unfolding threeAncs withAnc has
-  ancs-more s′ v marks p = record
-      { at = p .at
-      ; chain = p .chain
-      ; sib = p .sib
-      ; count = p .count
-      ; right = λ d u a b e. go d u a b e (ℕ-discrete v u)
-      }
+  ancs-more s′ v marks p = record {
+    at = p .at;
+    chain = p .chain;
+    sib = p .sib;
+    count = p .count;
+    right = λ d u a b e. go d u a b e (ℕ-discrete v u);
+  }
     where
       go : (d u : ℕ) → 1 ≤ d → d ≤ 3 → has u marks ≡ false → Dec (v ≡ u) → threeAncs caps s s′ v .anc d u ≡ stateOf (mapWith caps s) .anc d u
       go d u a b e (yes q) = subst (λ (x : ℕ). threeAncs caps s s′ v .anc d x ≡ stateOf (mapWith caps s) .anc d x) q (three-here s′ v d a b)
@@ -72,10 +72,13 @@ settled-pic w caps s s′ s″ p q pic =
   where
     maps : mapWith caps s′ ≡ mapWith caps s
     maps = same-map caps s s′ (p .at)
+
     ancs : (d v : ℕ) → 1 ≤ d → d ≤ 3 → s″ .anc d v ≡ stateOf (mapWith caps s) .anc d v
     ancs d v a b = q .right d v a b refl ∙ ap (λ (m : Map). stateOf m .anc d v) maps
+
     sibs : (h : ℕ) → s′ .sib h ≡ stateOf (mapWith caps s) .sib h
     sibs h = p .right h (and-false (isHalf (mapWith caps s) h))
+
     fields : withAncs s″ (stateOf (mapWith caps s) .anc) ≡ settled caps s
     fields =
         state-same (withAncs s″ (stateOf (mapWith caps s) .anc)) (settled caps s) (q .at ∙ p .at) (q .chain ∙ p .chain)

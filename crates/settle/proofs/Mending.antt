@@ -32,17 +32,17 @@ mend-step caps rows w w′ set set′ e p = rw e at p
 
 -- a state with the same cells and chains is ready too
 pub ready-same : (caps : Caps) (s s′ : State) → s′ .at ≡ s .at → s′ .chain ≡ s .chain → Ready caps s → Ready caps s′
-ready-same caps s s′ a b r = record
-    { sound = rw (same-map caps s s′ a) (r .sound)
-    ; chains = λ v c. ap (λ (f : ℕ → ℕ → Bool). f v c) b ∙ (r .chains v c ∙ ap (λ (m : Map). holds m v c) (sym (same-map caps s s′ a)))
-    }
+ready-same caps s s′ a b r = record {
+  sound = rw (same-map caps s s′ a) (r .sound);
+  chains = λ v c. ap (λ (f : ℕ → ℕ → Bool). f v c) b ∙ (r .chains v c ∙ ap (λ (m : Map). holds m v c) (sym (same-map caps s s′ a)));
+}
 
 module _ (caps : Caps) (rows : List (List (List ℕ))) (t : ℕ) (marks w : List ℕ) where
   pub mends-start : Mends caps rows t marks w w (drop 0 (setsOf t marks))
-  mends-start = record
-      { inside = only-none
-      ; state = λ s p k. (s, p, record { at = refl; chain = refl; anc = refl; count = refl; right = k .sibs })
-      }
+  mends-start = record {
+    inside = only-none;
+    state = λ s p k. (s, p, record { at = refl; chain = refl; anc = refl; count = refl; right = k .sibs });
+  }
 
   sets-count : length (setsOf t marks) ≡ facetCount t
   unfolding setsOf facetCount
@@ -51,25 +51,26 @@ module _ (caps : Caps) (rows : List (List (List ℕ))) (t : ℕ) (marks w : List
   pub mends-more : (w′ w″ : List ℕ) (f : ℕ) → Mends caps rows t marks w w′ (drop f (setsOf t marks)) → f < facetCount t
       → Step caps w′ w″ (MayMend caps rows (setIn rows t f marks)) (mended caps (setIn rows t f marks))
       → Mends caps rows t marks w w″ (drop (f + 1) (setsOf t marks))
-  mends-more w′ w″ f p h q = record
-      { inside = only-then (p .inside) (q .inside)
-      ; state = λ s pic k.
-          let r = p .state s pic k in
-          let set : setIn rows t f marks ≡ getD (setsOf t marks) f [] = rw (k .types) (set-is t f marks) in
-          let next : drop f (setsOf t marks) ≡ setIn rows t f marks ∷ drop (f + 1) (setsOf t marks) =
-              rw (add-one f, set) (drop-cons (setsOf t marks) f [] (omega (arith, sets-count))) in
-          ( mended caps (setIn rows t f marks) (r .0)
-          , q .state (r .0) (r .1) (may s (r .0) k (r .2))
-          , sibs-mend caps s (k .ready .sound) (r .0) (setIn rows t f marks) (drop (f + 1) (setsOf t marks)) (rw next at (r .2)))
-      }
+  mends-more w′ w″ f p h q = record {
+    inside = only-then (p .inside) (q .inside);
+    state = λ s pic k.
+        let r = p .state s pic k in
+        let set : setIn rows t f marks ≡ getD (setsOf t marks) f [] = rw (k .types) (set-is t f marks) in
+        let next : drop f (setsOf t marks) ≡ setIn rows t f marks ∷ drop (f + 1) (setsOf t marks) =
+        rw (add-one f, set) (drop-cons (setsOf t marks) f [] (omega (arith, sets-count))) in (
+          mended caps (setIn rows t f marks) (r .0),
+          q .state (r .0) (r .1) (may s (r .0) k (r .2)),
+          sibs-mend caps s (k .ready .sound) (r .0) (setIn rows t f marks) (drop (f + 1) (setsOf t marks)) (rw next at (r .2)),
+        );
+  }
     where
       may : (s s′ : State) {left : List (List ℕ)} → MaySettle caps rows t marks s → Sibs caps s s′ left → MayMend caps rows (setIn rows t f marks) s′
       may s s′ k x =
           let first = rw (sym (k .types)) at (set-first t f marks h (k .count)) in
-          record
-            { ready = ready-same caps s s′ (x .at) (x .chain) (k .ready)
-            ; asked = record { types = k .types; some = first .0; mark = k .inside (getD (setIn rows t f marks) 0 0) (first .1) }
-            }
+          record {
+            ready = ready-same caps s s′ (x .at) (x .chain) (k .ready);
+            asked = record { types = k .types; some = first .0; mark = k .inside (getD (setIn rows t f marks) 0 0) (first .1) };
+          }
 
   pub mends-done : (w′ : List ℕ) (f : ℕ) → Mends caps rows t marks w w′ (drop f (setsOf t marks)) → facetCount t ≤ f → Mends caps rows t marks w w′ []
   mends-done w′ f p h = rw (drop-of-length-le (setsOf t marks) {i = f} (omega (arith, sets-count))) at p

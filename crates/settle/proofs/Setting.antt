@@ -75,13 +75,15 @@ module _ (t f : ℕ) (marks : List ℕ) where
     where
       few : length (places t f) ≤ 4
       few = facts t .corners f
+
       size : min 4 (entry table t f 0) ≡ length (places t f)
       size = omega (arith, table-size t f, few)
 
   -- it has a first mark, one of the marks
   pub set-first : f < facetCount t → length marks ≡ shape t .marks → (0 < length (setIn table t f marks)) × (has (getD (setIn table t f marks) 0 0) marks ≡ true)
   unfolding setIn setMark places
-  set-first h count =
-      ( omega (arith, length-listOf (min 4 (entry table t f 0)) (setMark table t f marks), table-size t f, facet-some t f h)
-      , rw (list-at (min 4 (entry table t f 0)) (setMark table t f marks) 0 0 (omega (arith, table-size t f, facet-some t f h)), table-place t f 0 (omega arith))
-      (at-has marks (getD (places t f) 0 0) (omega (arith, facts t .inside f 0 (facet-some t f h)))))
+  set-first h count = (
+    omega (arith, length-listOf (min 4 (entry table t f 0)) (setMark table t f marks), table-size t f, facet-some t f h),
+    rw (list-at (min 4 (entry table t f 0)) (setMark table t f marks) 0 0 (omega (arith, table-size t f, facet-some t f h)), table-place t f 0 (omega arith))
+        (at-has marks (getD (places t f) 0 0) (omega (arith, facts t .inside f 0 (facet-some t f h)))),
+  )

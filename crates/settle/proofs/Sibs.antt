@@ -41,25 +41,27 @@ module _ (caps : Caps) (s : State) where
       where
         m : Map
         m = mapWith caps s
+
         other : isHalf m h ≡ true → sameSet (marksOf m h) set ≡ false
         other half =
             not-true-false (sameSet (marksOf m h) set)
             (λ q. clash (has-sharers m set h (half-live m sound h half) (same-sym (marksOf m h) set q)) none)
+
         go : (b : Bool) → isHalf m h ≡ b → b && (sameSet (marksOf m h) set || any (sameSet (marksOf m h)) sets) ≡ false
         go true half = rw (other half) (rw half at e)
         go false half = refl
 
     pub sibs-mend : (s′ : State) (set : List ℕ) (sets : List (List ℕ)) → Sibs caps s s′ (set ∷ sets) → Sibs caps s (mended caps set s′) sets
     unfolding mended
-    sibs-mend s′ set sets p = record
-        { at = p .at
-        ; chain = p .chain
-        ; anc = p .anc
-        ; count = p .count
-        ; right = λ h e. rw (same-map s′ (p .at)) (go h e (has h (sharers (mapWith caps s) set)) refl)
-        }
+    sibs-mend s′ set sets p = record {
+      at = p .at;
+      chain = p .chain;
+      anc = p .anc;
+      count = p .count;
+      right = λ h e. rw (same-map s′ (p .at)) (go h e (has h (sharers (mapWith caps s) set)) refl);
+    }
       where
         go : (h : ℕ) → among (mapWith caps s) sets h ≡ false → (b : Bool) → has h (sharers (mapWith caps s) set) ≡ b
-          → cond b (after h (sharers (mapWith caps s) set)) (s′ .sib h) ≡ stateOf (mapWith caps s) .sib h
+            → cond b (after h (sharers (mapWith caps s) set)) (s′ .sib h) ≡ stateOf (mapWith caps s) .sib h
         go h e true q = after-right set h q
         go h e false q = p .right h (left-out set sets h q e)

@@ -2,7 +2,6 @@
 use mathlib.Core.Path.{_≡_}
 use mathlib.Core.Bool.{Bool, true, false, _&&_}
 use mathlib.Core.List.{List, map}
-
 use Prim.Native.Nat.{ℕ, _<_, _≤_}
 use lib.ListN.{getD, length}
 use Rattle.lists.specs.Lists.{has, any, sameSet}
@@ -33,10 +32,10 @@ pub record MaySettle (caps : Caps) (rows : List (List (List ℕ))) (t : ℕ) (ma
 
 -- all siblings and first anchors right
 unfoldable pub settled : Caps → State → State
-settled caps s = record
-    { at = s .at
-    ; chain = s .chain
-    ; sib = stateOf (mapWith caps s) .sib
-    ; anc = stateOf (mapWith caps s) .anc
-    ; count = s .count
-    }
+settled caps s = record {
+  at = s .at;
+  chain = s .chain;
+  sib = stateOf (mapWith caps s) .sib;
+  anc = stateOf (mapWith caps s) .anc;
+  count = s .count;
+}

@@ -14,7 +14,6 @@ ghost use Rattle.settle.specs.Mended.{Mends};
 ghost use Rattle.settle.specs.Ancs.{Anchors, threeAncs};
 ghost use Rattle.settle.specs.Settle.{MaySettle, settled};
 ghost use Rattle.group.specs.Group.{Around};
-
 use group::first_anchor_of;
 use picture::put_anchor;
 use shapes::column;
@@ -40,7 +39,11 @@ fn facet_set(rows: &[[[u8; 5]; 6]; 5], t: u32, f: u32, marks: &[u32], out: &mut 
     let mut k: u32 = 0;
     while k < n {
         let next = k + 1;
-        put(out, k as usize, word(marks, column(rows, t, f, next) as usize));
+        put(
+            out,
+            k as usize,
+            word(marks, column(rows, t, f, next) as usize),
+        );
         k = next;
     }
     n

@@ -30,9 +30,9 @@ module _ (w : List ℕ) (caps : Caps) (s : State) (p : Pic w caps s) (c : ℕ) (
       part-fits w (cellAt (caps .marks) c + 1) (length (s .at c .marks)) fits
       ∙ ext-getD 0 (take (length (s .at c .marks)) (drop (cellAt (caps .marks) c + 1) w)) (s .at c .marks) size
       (λ j less.
-        let low : j < length (s .at c .marks) = omega (arith, size) in
-        getD-take (length (s .at c .marks)) (drop (cellAt (caps .marks) c + 1) w) j 0 low
-        ∙ (getD-drop (cellAt (caps .marks) c + 1) w j 0 ∙ corner-here j (omega (arith, four))))
+      let low : j < length (s .at c .marks) = omega (arith, size) in
+      getD-take (length (s .at c .marks)) (drop (cellAt (caps .marks) c + 1) w) j 0 low
+      ∙ (getD-drop (cellAt (caps .marks) c + 1) w j 0 ∙ corner-here j (omega (arith, four))))
     where
       size : length (take (length (s .at c .marks)) (drop (cellAt (caps .marks) c + 1) w)) ≡ length (s .at c .marks)
       size = length-take-le (length (s .at c .marks)) (drop (cellAt (caps .marks) c + 1) w) (omega (arith, length-drop (cellAt (caps .marks) c + 1) w, fits))

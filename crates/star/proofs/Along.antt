@@ -61,10 +61,11 @@ kept-end w caps d cells o o′ i n k f a b = let e : i ≡ n = omega arith in rw
 kept-most : (w : List ℕ) (caps : Caps) (d : ℕ) (cells : List ℕ) (n : ℕ) → length (kept w caps d cells n) ≤ n
 unfolding kept
 kept-most w caps d cells n =
-    omega
-    ( arith
-    , keep-size (λ c. eqb (shape (getD w (cellAt (caps .marks) c + 0) 0) .dimension) d) (listOf n (λ i. getD cells i 0))
-    , length-listOf n (λ i. getD cells i 0))
+    omega (
+      arith,
+      keep-size (λ c. eqb (shape (getD w (cellAt (caps .marks) c + 0) 0) .dimension) d) (listOf n (λ i. getD cells i 0)),
+      length-listOf n (λ i. getD cells i 0),
+    )
 
 -- the code of a cell of the mesh, as its record has it
 pub code-word : (w : List ℕ) (caps : Caps) (s : State) → Pic w caps s → (c : ℕ) → c < caps .cells
@@ -89,7 +90,7 @@ module _ (w : List ℕ) (caps : Caps) (d v : ℕ) (zeros cells o o′ : List ℕ
   star-kept s p a g room =
       let l = g .list s p (ready-linked caps s (a .ready)) (a .mark) in
       let first : take n cells ≡ chainOf caps s v =
-          rw (l .1 (omega (arith, g .few)), l .0) (take-append-seam (chainOf caps s v) (drop (length (chainOf caps s v)) zeros)) in
+      rw (l .1 (omega (arith, g .few)), l .0) (take-append-seam (chainOf caps s v) (drop (length (chainOf caps s v)) zeros)) in
       rw (listOf-take cells n (omega (arith, g .few, g .size)), first, chain-holders caps s (a .ready) v)
       (keep-same (λ c. eqb (shape (getD w (cellAt (caps .marks) c + 0) 0) .dimension) d) (λ c. eqb (dimensionAt (mapWith caps s) c) d)
       (holders (mapWith caps s) v) (λ c e. ap (λ (t : ℕ). eqb (shape t .dimension) d) (code-word w caps s p c (held c e)))
@@ -100,11 +101,11 @@ module _ (w : List ℕ) (caps : Caps) (d v : ℕ) (zeros cells o o′ : List ℕ
 
   pub star-gives : Gathered w caps v zeros n cells → length zeros ≡ 128 → Copied (kept w caps d cells n) o r o′
       → Gives w caps 128 (AtMark caps v) (λ m. star m d v) o r o′
-  star-gives g room f = record
-      { few = omega (arith, f .count, kept-few, g .few)
-      ; size = f .filled .size
-      ; gives = λ s p a. rw (star-kept s p a g (omega arith)) at f
-      }
+  star-gives g room f = record {
+    few = omega (arith, f .count, kept-few, g .few);
+    size = f .filled .size;
+    gives = λ s p a. rw (star-kept s p a g (omega arith)) at f;
+  }
     where
       kept-few : length (kept w caps d cells n) ≤ n
       kept-few = kept-most w caps d cells n

@@ -8,7 +8,6 @@ ghost use Rattle.star.specs.Listed.{Gives, AtMark};
 ghost use Rattle.star.specs.Along.{kept};
 ghost use Rattle.lists.specs.Filled.{Copied};
 ghost use lib.ListN.{take};
-
 use chain::gather;
 use shapes::dimension;
 use store::Caps;

@@ -42,7 +42,8 @@ slot-of marks cells i h = go (decLt i 16) (decLt i (16 + 8 * marks)) (decLt i (1
     go (no a) (yes b) c = (Mark ((i - 16) / 8) ((i - 16) % 8), (omega arith, omega arith), omega arith)
     go (no a) (no b) (yes c) =
         (Cell ((i - (16 + 8 * marks)) / 16) ((i - (16 + 8 * marks)) % 16), (omega arith, omega arith), omega arith)
-    go (no a) (no b) (no c) =
-        ( Cold ((i - (16 + 8 * marks + 16 * cells)) / 16) ((i - (16 + 8 * marks + 16 * cells)) % 16)
-        , (omega arith, omega arith)
-        , omega arith)
+    go (no a) (no b) (no c) = (
+      Cold ((i - (16 + 8 * marks + 16 * cells)) / 16) ((i - (16 + 8 * marks + 16 * cells)) % 16),
+      (omega arith, omega arith),
+      omega arith,
+    )

@@ -62,19 +62,21 @@ module _ (w : List ℕ) where
           pub open-room : length w < room (getD w 1 0) (getD w 2 0) → opened w ≡ Nothing
           unfolding opened isMesh
           open-room e =
-              simp
-              ( le-leb 16 (length w) a
-              , eq-eqb (getD w 0 0) magic b
-              , le-leb (getD w 1 0) 65535 c
-              , le-leb (getD w 2 0) 65535 d
-              , lt-leb (room (getD w 1 0) (getD w 2 0)) (length w) e)
+              simp (
+                le-leb 16 (length w) a,
+                eq-eqb (getD w 0 0) magic b,
+                le-leb (getD w 1 0) 65535 c,
+                le-leb (getD w 2 0) 65535 d,
+                lt-leb (room (getD w 1 0) (getD w 2 0)) (length w) e,
+              )
 
           pub open-mesh : room (getD w 1 0) (getD w 2 0) ≤ length w → opened w ≡ Mesh (record { marks = getD w 1 0; cells = getD w 2 0 })
           unfolding opened isMesh
           open-mesh e =
-              simp
-              ( le-leb 16 (length w) a
-              , eq-eqb (getD w 0 0) magic b
-              , le-leb (getD w 1 0) 65535 c
-              , le-leb (getD w 2 0) 65535 d
-              , le-leb (room (getD w 1 0) (getD w 2 0)) (length w) e)
+              simp (
+                le-leb 16 (length w) a,
+                eq-eqb (getD w 0 0) magic b,
+                le-leb (getD w 1 0) 65535 c,
+                le-leb (getD w 2 0) 65535 d,
+                le-leb (room (getD w 1 0) (getD w 2 0)) (length w) e,
+              )

@@ -10,7 +10,6 @@ ghost use lib.ListN.{getD};
 ghost use Rattle.store.specs.Layout.{markAt, cellAt};
 ghost use Rattle.store.specs.Slots.{setMark, setCell};
 ghost use Rattle.store.specs.Open.{opened};
-
 use words::put;
 use words::word;
 
@@ -61,7 +60,10 @@ pub fn mark_word(w: &[u32], v: u32, k: u32) -> u32
 pub fn cell_word(w: &[u32], caps: Caps, c: u32, k: u32) -> u32
     ensures { λ r. ⌜ r ≡ getD (now (w .entry)) (cellAt (caps .marks) c + k) 0 ⌝ }
 {
-    word(w, 16 + 8 * (caps.marks as usize) + 16 * (c as usize) + (k as usize))
+    word(
+        w,
+        16 + 8 * (caps.marks as usize) + 16 * (c as usize) + (k as usize),
+    )
 }
 
 // A word of a mark's record, written.
@@ -87,5 +89,9 @@ pub fn put_cell(w: &mut [u32], caps: Caps, c: u32, k: u32, x: u32)
     if 16 <= k {
         return;
     }
-    put(w, 16 + 8 * (caps.marks as usize) + 16 * (c as usize) + (k as usize), x);
+    put(
+        w,
+        16 + 8 * (caps.marks as usize) + 16 * (c as usize) + (k as usize),
+        x,
+    );
 }

@@ -33,7 +33,7 @@ same-length : tie.Need-same-length
 same-length c = search needs
 
 returns : tie.Need-returns
-returns c = 
+returns c =
     remove-by-record _ _ _ _ _ (c .before .before .before .before .before .before .before .before .copy-corners .ensures) refl _ _ _ _ (c .before .before .before .before .before .before .before .before .before .before .before .cell-word .ensures) (c .before .before .before .before .mark-count .ensures) (c .before .before .before .part .ensures)
     (c .before .before .take-out .ensures)
 

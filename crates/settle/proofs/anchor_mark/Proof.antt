@@ -26,7 +26,7 @@ same-length : tie.Need-same-length
 same-length c = search needs
 
 returns : tie.Need-returns
-returns c = 
+returns c =
     three-step _ _ _ _ _ _ _ _ _ _ (c .before .before .before .before .before .before .before .before .before .before .before .before .before .before .before .before .first-anchor-of .ensures) (c .before .before .before .before .before .before .before .before .before .before .before .before .before .before .first-anchor-of2 .ensures) (c .before .before .before .before .before .before .before .before .before .before .before .before .first-anchor-of3 .ensures)
     (c .before .before .before .before .before .before .before .before .before .before .put-anchor .ensures) (c .before .before .before .before .before .before .put-anchor2 .ensures) (c .before .before .put-anchor3 .ensures)
 

@@ -31,9 +31,10 @@ loop-less : tie.Need-loop-less Inv-loop μ-loop
 loop-less c = search needs
 
 loop-again : tie.Need-loop-again Inv-loop μ-loop
-loop-again c = 
-    ( omega arith
-    , mends-more _ _ _ _ _ _ _ (c .before .before .before .before .before .loop .f) (c .before .before .before .before .before .loop .inv .1) (omega (arith, c .before .before .before .before .before .before .facet-count .ensures)) (c .before .before .mend-facet .ensures))
+loop-again c = (
+  omega arith,
+  mends-more _ _ _ _ _ _ _ (c .before .before .before .before .before .loop .f) (c .before .before .before .before .before .loop .inv .1) (omega (arith, c .before .before .before .before .before .before .facet-count .ensures)) (c .before .before .mend-facet .ensures),
+)
 
 same-length : tie.Need-same-length Inv-loop μ-loop
 same-length c = search needs

@@ -47,16 +47,18 @@ loop-less : tie.Need-loop-less Inv-loop μ-loop
 loop-less c = search needs
 
 loop-again : tie.Need-loop-again Inv-loop μ-loop
-loop-again c = 
+loop-again c =
     ⊎-elim
-    (λ w.
-      ( omega arith
-      , omega (arith, w .6, c .before .before .before .before .before .loop .inv .1)
-      , rw (w .6, w .5) (kept-yes _ _ _ _ _ (c .before .before .before .before .before .loop .i) _ _ _ _ _ _ (c .before .before .before .before .before .loop .inv .2) (c .before .before .before .word .ensures) (c .before .before .cell-word .ensures) (c .before .dimension .ensures) (w .0 .taken) (w .2 .ensures))))
-    (λ w.
-      ( omega arith
-      , omega (arith, w .2, c .before .before .before .before .before .loop .inv .1)
-      , rw (w .2, w .1) (kept-no _ _ _ _ _ (c .before .before .before .before .before .loop .i) _ _ _ _ _ (c .before .before .before .before .before .loop .inv .2) (c .before .before .before .word .ensures) (c .before .before .cell-word .ensures) (c .before .dimension .ensures) (w .0 .left))))
+    (λ w. (
+      omega arith,
+      omega (arith, w .6, c .before .before .before .before .before .loop .inv .1),
+      rw (w .6, w .5) (kept-yes _ _ _ _ _ (c .before .before .before .before .before .loop .i) _ _ _ _ _ _ (c .before .before .before .before .before .loop .inv .2) (c .before .before .before .word .ensures) (c .before .before .cell-word .ensures) (c .before .dimension .ensures) (w .0 .taken) (w .2 .ensures)),
+    ))
+    (λ w. (
+      omega arith,
+      omega (arith, w .2, c .before .before .before .before .before .loop .inv .1),
+      rw (w .2, w .1) (kept-no _ _ _ _ _ (c .before .before .before .before .before .loop .i) _ _ _ _ _ (c .before .before .before .before .before .loop .inv .2) (c .before .before .before .word .ensures) (c .before .before .cell-word .ensures) (c .before .dimension .ensures) (w .0 .left)),
+    ))
     (c .if1 .came)
 
 same-length : tie.Need-same-length Inv-loop μ-loop
