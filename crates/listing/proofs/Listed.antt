@@ -1,20 +1,19 @@
 -- A listing query: no mesh; refused by its checks; the list given out.
 use mathlib.Core.Path.{_≡_, refl, sym, ap, _∙_}
-use mathlib.Core.Bool.{Bool, true, false, cond}
+use mathlib.Core.Bool.{true, false}
 use mathlib.Core.List.{List, [], _∷_, _++_}
 use Prim.Native.Nat.{ℕ, _+_, _<_, _≤_}
 use native.Mathlib.Decide.{decLt}
 use native.Mathlib.Omega.{arith}
 use borrow.Author.Tests.{lt-ltb, le-ltb, ne-eqb}
-use lib.Dec.{eqb, ltb}
-use lib.ListN.{getD, length, drop, take}
+use lib.Dec.{ltb}
+use lib.ListN.{getD, length, drop}
 use Rattle.lists.specs.Lists.{listOf}
-use Rattle.lists.specs.Filled.{Filled, Copied}
+use Rattle.lists.specs.Filled.{Copied}
 use Rattle.lists.proofs.Bools.{clash}
-use Rattle.lists.proofs.Fill.{filled-take, listOf-take}
+use Rattle.lists.proofs.Fill.{filled-take, length-listOf, listOf-take}
 use Rattle.store.specs.declared.Caps.{Caps}
 use Rattle.store.specs.declared.Opened.the-variants.{Mesh, Nothing}
-use Rattle.store.specs.Slots.{isMesh}
 use Rattle.store.specs.Open.{opened}
 use Rattle.map.specs.Cells.{Map}
 use Rattle.map.specs.Answers.{Check, Answer, _when_, answer, listAnswer, listed}
@@ -46,6 +45,11 @@ listed-refused : (a : Answer) (why : Refusal) (l o : List ℕ) → refused why �
 unfolding listed refused
 listed-refused a why l o e = rw (← e, ne-eqb (numberOf why) 0 (λ z. omega (arith, number-some why)))
 
+-- the first n numbers of a copied list
+pub copied-list : (l zeros from : List ℕ) (n : ℕ) → n ≤ length zeros → Copied l zeros n from → listOf n (λ i. getD from i 0) ≡ l
+copied-list l zeros from n room c =
+    listOf-take from n (omega (arith, c .filled .size)) ∙ rw (c .count) (filled-take l zeros from (c .filled) (omega (arith, c .count)))
+
 module _ (w : List ℕ) (checks : Map → List Check) (list : Map → List ℕ) (o : List ℕ) where
   pub listing-none : Nothing ≡ opened w → Listing w checks list o (Val.Refused NotMesh) o
   listing-none e = record {
@@ -66,17 +70,7 @@ module _ (w : List ℕ) (checks : Map → List Check) (list : Map → List ℕ) 
           (a, listed-refused (answer (checks m ++ ((12 when ltb (length o) (length (list m))) ∷ [])) (length (list m) ∷ [])) why (list m) o a);
     }
 
-    module _ (v : verdict ≡ Accepted) (numbered : (m : Map) → Numbered (checks m)) (zeros from : List ℕ) (n : ℕ) (room : n ≤ length zeros)
-        (lists : (m : Map) → capsOf m ≡ caps → Wf w m → Copied (list m) zeros n from) where
-      -- the first n numbers are the list
-      whole : (m : Map) → capsOf m ≡ caps → Wf w m → (n ≡ length (list m)) × (listOf n (λ i. getD from i 0) ≡ list m)
-      whole m e wf =
-          let c = lists m e wf in (
-            c .count,
-            listOf-take from n (omega (arith, c .filled .size))
-                ∙ rw (c .count) (filled-take (list m) zeros from (c .filled) (omega (arith, c .count))),
-          )
-
+    module _ (v : verdict ≡ Accepted) (numbered : (m : Map) → Numbered (checks m)) where
       behind : (m : Map) → Wf w m
           → answer ((12 when ltb (length o) (length (list m))) ∷ []) (length (list m) ∷ []) ≡ listAnswer (checks m) (list m) (length o)
       unfolding listAnswer verdictSays
@@ -84,31 +78,54 @@ module _ (w : List ℕ) (checks : Map → List Check) (list : Map → List ℕ) 
           given-more (checks m) ((12 when ltb (length o) (length (list m))) ∷ []) (length (list m) ∷ []) (numbered m)
           (ap verdictSays (sym v) ∙ checked .says m (wf-caps w m wf caps opens) wf)
 
-      pub listing-given : (r : Value) (o′ : List ℕ) → Given from n o r o′ → Listing w checks list o r o′
-      unfolding _when_ answer valueSays refused given listed
-      listing-given r o′ g = record {
+      -- the output is shorter than the list
+      pub listing-short : (n : ℕ) → length o < n → ((m : Map) → capsOf m ≡ caps → Wf w m → n ≡ length (list m))
+          → Listing w checks list o (Val.Refused OutputShort) o
+      unfolding _when_ answer valueSays refused listed
+      listing-short n h counts = record {
         refused = λ none. absurd (clash (mesh-opened w caps opens .0) none);
-        kept = λ why q. keeps why q (decLt (length o) n);
-        answers = λ m wf. gives m wf (decLt (length o) n);
+        kept = λ why q. refl;
+        answers = λ m wf.
+            let p = counts m (wf-caps w m wf caps opens) wf in
+            let short : ltb (length o) (length (list m)) ≡ true = lt-ltb (length o) (length (list m)) (omega (arith, p)) in
+            rw (← behind m wf, short) (refl, refl);
+      }
+
+      -- the list stands in the first places of the output
+      pub listing-wrote : (n : ℕ) (o′ : List ℕ) → n ≤ length o
+          → ((m : Map) → capsOf m ≡ caps → Wf w m → (n ≡ length (list m)) × (o′ ≡ list m ++ drop (length (list m)) o))
+          → Listing w checks list o (Val.Is n) o′
+      unfolding _when_ answer valueSays given listed
+      listing-wrote n o′ h written = record {
+        refused = λ none. absurd (clash (mesh-opened w caps opens .0) none);
+        kept = λ why q. absurd (never why q);
+        answers = λ m wf.
+            let p = written m (wf-caps w m wf caps opens) wf in
+            let fits : ltb (length o) (length (list m)) ≡ false = le-ltb (length o) (length (list m)) (omega (arith, p .0)) in
+            rw (← behind m wf, fits) (ap (λ (k : ℕ). record { refusal = 0; values = k ∷ [] }) (p .0), p .1);
       }
         where
           never : (why : Refusal) → Val.Is n ≡ Val.Refused why → ⊥
           never why e = let z : _≡_ {A = ℕ} 0 1 = cc in omega arith
 
-          keeps : (why : Refusal) → r ≡ Val.Refused why → Dec (length o < n) → o′ ≡ o
-          keeps why q (yes h) = g .short h .1
-          keeps why q (no f) = absurd (never why (sym (g .fits (omega arith) .0) ∙ q))
+      module _ (zeros from : List ℕ) (n : ℕ) (room : (m : Map) → capsOf m ≡ caps → Wf w m → n ≤ length zeros)
+          (lists : (m : Map) → capsOf m ≡ caps → Wf w m → Copied (list m) zeros n from) where
+        -- the first n numbers are the list
+        whole : (m : Map) → capsOf m ≡ caps → Wf w m → (n ≡ length (list m)) × (listOf n (λ i. getD from i 0) ≡ list m)
+        whole m e wf =
+            (lists m e wf .count, copied-list (list m) zeros from n (room m e wf) (lists m e wf))
 
-          gives : (m : Map) → Wf w m → Dec (length o < n)
-              → (valueSays r ≡ listAnswer (checks m) (list m) (length o)) × (o′ ≡ listed (listAnswer (checks m) (list m) (length o)) (list m) o)
-          gives m wf (yes h) =
-              let p = whole m (wf-caps w m wf caps opens) wf in
-              let short : ltb (length o) (length (list m)) ≡ true = lt-ltb (length o) (length (list m)) (omega (arith, p .0)) in
-              rw (← behind m wf, short, g .short h .0, g .short h .1) (refl, refl)
-          gives m wf (no f) =
-              let p = whole m (wf-caps w m wf caps opens) wf in
-              let fits : ltb (length o) (length (list m)) ≡ false = le-ltb (length o) (length (list m)) (omega (arith, p .0)) in
-              rw (← behind m wf, fits, g .fits (omega arith) .0, g .fits (omega arith) .1, p .1, p .0) (refl, refl)
+        pub listing-given : (r : Value) (o′ : List ℕ) → Given from n o r o′ → Listing w checks list o r o′
+        listing-given r o′ g = go (decLt (length o) n)
+          where
+            gives : n ≤ length o → (m : Map) → capsOf m ≡ caps → Wf w m → (n ≡ length (list m)) × (o′ ≡ list m ++ drop (length (list m)) o)
+            gives h m e wf =
+                let p = whole m e wf in
+                (p .0, rw (← p .1, length-listOf) (g .fits h .1))
+
+            go : Dec (length o < n) → Listing w checks list o r o′
+            go (yes h) = rw (g .short h .0, g .short h .1) (listing-short n h (λ m e wf. lists m e wf .count))
+            go (no f) = rw (g .fits (omega arith) .0) (listing-wrote n o′ (omega arith) (gives (omega arith)))
 
 -- what a reader gives on the state of a map
 pub gives-list : (w : List ℕ) (caps : Caps) (most : ℕ) (ok : State → Type 0) (list : Map → List ℕ) (o o′ : List ℕ) (r : ℕ) → Gives w caps most ok list o r o′

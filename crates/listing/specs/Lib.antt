@@ -1,1 +1,4 @@
 pub mod Listing
+pub mod Ring
+pub mod Near
+pub mod Least

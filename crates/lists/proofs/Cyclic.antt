@@ -65,7 +65,7 @@ getD-any (x ∷ xs) zero d e h = refl
 getD-any (x ∷ xs) (suc k) d e h = getD-any xs k d e (le-of-suc-le-suc h)
 
 -- a list laid twice: the second time round
-twice-again : (l : List ℕ) (k j : ℕ) → j ≡ length l + k → getD (l ++ l) j 0 ≡ getD l k 0
+pub twice-again : (l : List ℕ) (k j : ℕ) → j ≡ length l + k → getD (l ++ l) j 0 ≡ getD l k 0
 twice-again l k j e = rw e (getD-append-add l l k 0)
 
 -- the cycle has the numbers of the list
@@ -118,7 +118,7 @@ module _ (l : List ℕ) (a : Ascending l) where
       let e : i + suc k ≡ suc (i + k) = omega arith in
       rw (steps-twice i k (omega arith) hi, e) (after-twice (i + k) (omega arith))
 
-  from-twice : (i k : ℕ) → i < length l → k < length l → getD (from (getD l i 0) l) k 0 ≡ getD (l ++ l) (i + k) 0
+  pub from-twice : (i k : ℕ) → i < length l → k < length l → getD (from (getD l i 0) l) k 0 ≡ getD (l ++ l) (i + k) 0
   unfolding from
   from-twice i k hi hk = rw (keep-from l a i hi, keep-before l a i hi) (go (decLt (i + k) (length l)))
     where
