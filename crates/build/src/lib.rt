@@ -1,1 +1,73 @@
-// build
+// A whole mesh from a list of records.
+//
+// What is here: `build` formats the memory and inserts the records one after another; a record is a cell's number, a type and that type's
+// marks. It has no `requires`. What is proved: the answer of the outline, with the place of the first refused record; a build that its
+// format refuses changes nothing; nothing beyond the room changes; the memory left is the well-formed one of the built mesh, or of the
+// mesh with no live cell (specs/Builds.antt). What a caller should know: a record cut off at the end is refused with 7 unless a check
+// before that one fails, and a refused build formats once more.
+ghost use mathlib.Core.Path.{_≡_};
+ghost use Prim.Native.Nat.{_+_, min};
+ghost use lib.ListN.{length};
+ghost use Rattle.build.specs.Builds.{Builds};
+ghost use Rattle.build.specs.Recorded.{width, Recorded};
+use format::format;
+use map::Built;
+use map::Refusal;
+use map::Verdict;
+use mesh::insert;
+use numbers::Cell;
+use shapes::mark_count;
+use words::part;
+use words::word;
+
+// Where the record from a place on ends: behind its marks, or with the words.
+fn record_end(records: &[u32], at: usize) -> usize
+    ensures { λ r. ⌜ r ≡ min (at + width (now (records .entry)) at) (length (now (records .entry))) ⌝ }
+{
+    let len = records.len();
+    if len <= at {
+        return len;
+    }
+    let n = 2 + (mark_count(word(records, at + 1)) as usize);
+    if len - at < n {
+        return len;
+    }
+    at + n
+}
+
+// The record between two places, inserted.
+fn one_record(w: &mut [u32], records: &[u32], at: usize, end: usize) -> Verdict
+    ensures { λ r. ⌜ Recorded (now (w .entry)) (now (records .entry)) at end r (now (w .exit)) ⌝ }
+{
+    if end < 2 {
+        return Verdict::Refused(Refusal::CountWrong);
+    }
+    if end - 2 < at {
+        return Verdict::Refused(Refusal::CountWrong);
+    }
+    let c = word(records, at);
+    let t = word(records, at + 1);
+    let marks = part(records, at + 2, end - 2 - at);
+    insert(w, Cell(c), t, marks)
+}
+
+// A mesh of these capacities with the cells of the records.
+pub fn build(w: &mut [u32], marks: u32, cells: u32, records: &[u32]) -> Built
+    ensures { λ r. ⌜ Builds (now (w .entry)) marks cells (now (records .entry)) r (now (w .exit)) ⌝ }
+{
+    if let Verdict::Refused(why) = format(w, marks, cells) {
+        return Built::Refused(why, 0);
+    }
+    let mut at: usize = 0;
+    let mut place: u32 = 0;
+    while at < records.len() {
+        let end = record_end(records, at);
+        if let Verdict::Refused(why) = one_record(w, records, at, end) {
+            format(w, marks, cells);
+            return Built::Refused(why, place);
+        }
+        at = end;
+        place += 1;
+    }
+    Built::Accepted
+}

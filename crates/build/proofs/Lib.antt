@@ -1,0 +1,4 @@
+-- The laws of a build.
+pub mod Records
+pub mod Turns
+pub mod Going

@@ -1,0 +1,43 @@
+-- A build goes on, record by record.
+use mathlib.Core.Path.{_≡_, refl}
+use mathlib.Core.List.{List, [], _∷_}
+use Prim.Native.Nat.{ℕ, zero, suc, _+_, _-_, _≤_}
+use native.Mathlib.Numerals.{add-one}
+use native.Mathlib.Omega.{arith}
+use borrow.Author.Tests.{ne-eqb}
+use lib.ListN.{take, drop}
+use Rattle.shapes.specs.Shapes.{shape}
+use Rattle.map.specs.History.{Mesh, mapIn, empty, Insert, editAnswer, made, buildFrom}
+use Rattle.map.specs.Paper.{numberOf}
+use Rattle.map.specs.declared.Refusal.{Refusal}
+use Rattle.checks.proofs.Values.{number-some}
+
+module _ (place : ℕ) (m : Mesh) where
+  -- no word left
+  pub turn-end : (n : ℕ) → buildFrom n place m [] ≡ record { refusal = 0; place = 0; mesh = m }
+  unfolding buildFrom
+  turn-end zero = refl
+  turn-end (suc n) = refl
+
+  -- one word left
+  pub turn-one : (n : ℕ) → 1 ≤ n → (c : ℕ) → buildFrom n place m (c ∷ []) ≡ record { refusal = 7; place = place; mesh = empty (m .marks) (m .cells) }
+  unfolding buildFrom
+  turn-one zero h c = absurd (omega arith)
+  turn-one (suc n) h c = refl
+
+  -- a record that is accepted, and one that is refused
+  module _ (c t : ℕ) (rest : List ℕ) where
+    pub turn-made : (n : ℕ) → 1 ≤ n → editAnswer (mapIn m) (Insert c t (take (shape t .marks) rest)) .refusal ≡ 0
+        → buildFrom n place m (c ∷ t ∷ rest)
+        ≡ buildFrom (n - 1) (place + 1) (made m (Insert c t (take (shape t .marks) rest))) (drop (shape t .marks) rest)
+    unfolding buildFrom
+    turn-made zero h e = absurd (omega arith)
+    turn-made (suc n) h e =
+        let less : suc n - 1 ≡ n = omega arith in
+        rw (less, add-one place, e, buildFrom)
+
+    pub turn-refused : (n : ℕ) → 1 ≤ n → (why : Refusal) → numberOf why ≡ editAnswer (mapIn m) (Insert c t (take (shape t .marks) rest)) .refusal
+        → buildFrom n place m (c ∷ t ∷ rest) ≡ record { refusal = numberOf why; place = place; mesh = empty (m .marks) (m .cells) }
+    unfolding buildFrom
+    turn-refused zero h why e = absurd (omega arith)
+    turn-refused (suc n) h why e = rw (← e, buildFrom, ne-eqb (numberOf why) 0 (λ z. omega (arith, number-some why))) (rw (← e))
