@@ -16,7 +16,7 @@ use Rattle.store.specs.declared.Caps.{Caps}
 use Rattle.store.specs.declared.Opened.the-variants.{Mesh, Nothing}
 use Rattle.store.specs.Open.{opened}
 use Rattle.map.specs.Cells.{Map}
-use Rattle.map.specs.Answers.{Check, Answer, _when_, answer, listAnswer, listed}
+use Rattle.map.specs.Answers.{Check, Answer, _when_, answer, listAnswer}
 use Rattle.map.specs.Paper.{numberOf, given, refused, valueSays, verdictSays}
 use Rattle.map.specs.declared.Refusal.{Refusal}
 use Rattle.map.specs.declared.Refusal.the-variants.{NotMesh, OutputShort}
@@ -38,7 +38,7 @@ use Rattle.star.specs.Listed.{Gives, AtMark}
 use Rattle.checks.proofs.Rows.{marks-of}
 use Rattle.checks.proofs.Passed.{star-passed}
 use Rattle.checks.proofs.Opens.{nothing-opened, mesh-opened, wf-mesh, wf-caps}
-use Rattle.listing.specs.Listing.{Listing, Given}
+use Rattle.listing.specs.Listing.{listed, Listing, Given}
 
 -- a refused answer lists nothing
 listed-refused : (a : Answer) (why : Refusal) (l o : List ℕ) → refused why ≡ a → o ≡ listed a l o

@@ -1,20 +1,25 @@
 -- What a listing query promises: memory that is no mesh is refused with 14; a refusal changes no place of the output, on any memory; on
 -- well-formed memory the answer is the definition's, and a list that fits changes only its first places.
 use mathlib.Core.Path.{_≡_}
-use mathlib.Core.Bool.{false}
+use mathlib.Core.Bool.{false, cond}
 use mathlib.Core.List.{List, _++_}
 use Prim.Native.Nat.{ℕ, _<_, _≤_}
+use lib.Dec.{eqb}
 use lib.ListN.{getD, length, drop}
 use Rattle.lists.specs.Lists.{listOf}
 use Rattle.store.specs.Slots.{isMesh}
 use Rattle.map.specs.Cells.{Map}
-use Rattle.map.specs.Answers.{Check, listAnswer, listed}
+use Rattle.map.specs.Answers.{Check, Answer, listAnswer}
 use Rattle.map.specs.Paper.{valueSays}
 use Rattle.map.specs.declared.Refusal.{Refusal}
 use Rattle.map.specs.declared.Refusal.the-variants.{NotMesh, OutputShort}
 use Rattle.map.specs.declared.Value.{Value}
 use Rattle.map.specs.declared.Value.the-variants.{Is, Refused}
 use Rattle.picture.specs.Picture.{Wf}
+
+-- the output afterwards: "a list that fits changes only its first places"; a refusal changes nothing
+unfoldable pub listed : Answer → List ℕ → List ℕ → List ℕ
+listed a l out = cond (eqb (a .refusal) 0) (l ++ drop (length l) out) out
 
 pub record Listing (w : List ℕ) (checks : Map → List Check) (list : Map → List ℕ) (o : List ℕ) (r : Value) (o′ : List ℕ) : Type 0 where
   pub refused : isMesh w ≡ false → r ≡ Refused NotMesh

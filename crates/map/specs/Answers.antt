@@ -3,7 +3,7 @@ use mathlib.Core.Bool.{Bool, cond, not, _&&_, _||_}
 use mathlib.Core.List.{List, [], _∷_, _++_}
 use Prim.Native.Nat.{ℕ, _+_, _*_, _/_, _%_}
 use lib.Dec.{eqb, leb, ltb}
-use lib.ListN.{length, take, drop}
+use lib.ListN.{length, take}
 use Rattle.lists.specs.Lists.{any, repeats, sameSet}
 use Rattle.numbers.specs.Half.{halfOf}
 use Rattle.numbers.specs.Room.{room}
@@ -33,10 +33,6 @@ answer (c ∷ cs) values = cond (c .fails) (record { refusal = c .number; values
 -- a listed answer gives the count; "12: output buffer shorter than the list"
 unfoldable pub listAnswer : List Check → List ℕ → ℕ → Answer
 listAnswer checks l places = answer (checks ++ ((12 when ltb places (length l)) ∷ [])) (length l ∷ [])
-
--- "a list that fits changes only its first places"; a refusal changes nothing
-unfoldable pub listed : Answer → List ℕ → List ℕ → List ℕ
-listed a l out = cond (eqb (a .refusal) 0) (l ++ drop (length l) out) out
 
 -- "Format: 1, 2."
 unfoldable pub formatChecks : ℕ → ℕ → ℕ → List Check
