@@ -29,7 +29,8 @@ use Rattle.picture.specs.State.{State, mapWith, capsOf, stateOf}
 use Rattle.picture.specs.Picture.{chainOf, Wf}
 use Rattle.picture.proofs.Settles.{wf-pic, wf-settled, wf-map}
 use Rattle.chain.specs.Chain.{Gathered}
-use Rattle.chain.proofs.Readied.{four-marks, chain-holders, ready-linked}
+use Rattle.shapes.proofs.Today.{four-marks, type-marks}
+use Rattle.chain.proofs.Readied.{chain-holders, ready-linked}
 use Rattle.sibling.proofs.Part.{marks-read}
 use Rattle.checks.proofs.Rows.{marks-of, cells-of, code-of}
 use Rattle.admit.specs.Admit.{sameIn, fullIn, Same}
@@ -42,59 +43,6 @@ module _ (w : List ℕ) (caps : Caps) (t : ℕ) (marks : List ℕ) (c k : ℕ) (
   pub record-same : k ≡ t → (r : Bool) (l : List ℕ) (n : ℕ) → n ≡ shape t .marks → l ≡ partOf w (cellAt (caps .marks) c + 1) n → r ≡ sameSet l marks → r ≡ sameIn w caps t marks c
   unfolding sameIn
   record-same e r l n count p q = rw (← word, eq-eqb k t e, ← count, ← p) q
-
--- a list made place by place, looked through
-any-end : (p : ℕ → Bool) (l : List ℕ) (x : ℕ) → any p (l ++ (x ∷ [])) ≡ any p l || p x
-unfolding any
-any-end p [] x = or-none (p x)
-  where
-    or-none : (b : Bool) → b || false ≡ b
-    or-none true = refl
-    or-none false = refl
-any-end p (y ∷ ys) x = go (p y) (any-end p ys x)
-  where
-    go : (b : Bool) → any p (ys ++ (x ∷ [])) ≡ any p ys || p x → b || any p (ys ++ (x ∷ [])) ≡ b || any p ys || p x
-    go true e = refl
-    go false e = e
-
-module _ (p : ℕ → Bool) (g : ℕ → ℕ) where
-  pub none-start : any p (listOf 0 g) ≡ false
-  unfolding any listOf
-  none-start = refl
-
-  pub none-more : (i : ℕ) → any p (listOf i g) ≡ false → p (g i) ≡ false → any p (listOf (i + 1) g) ≡ false
-  unfolding listOf
-  none-more i e q = rw (add-one i) (any-end p (listOf i g) (g i) ∙ rw (e, q))
-
-  pub one-there : (n i : ℕ) → i < n → p (g i) ≡ true → any p (listOf n g) ≡ true
-  unfolding listOf
-  one-there zero i h e = absurd (not-suc-le-zero h)
-  one-there (suc n) i h e =
-      any-end p (listOf n g) (g n)
-      ∙ ⊎-elim (λ (z : i ≡ n). or-right (any p (listOf n g)) (p (g n)) (rw z at e)) (λ (l : i < n). or-left (any p (listOf n g)) (p (g n)) (one-there n i l e))
-      (eq-or-lt-of-le {n = i} {m = n} (omega arith))
-
-  pub none-all : (i n : ℕ) → any p (listOf i g) ≡ false → i ≤ n → n ≤ i → false ≡ any p (listOf n g)
-  none-all i n e a b = let q : i ≡ n = omega arith in sym (rw q at e)
-
-someMarks : Shape → Bool
-someMarks s = eqb (s .dimension) 0 || ltb 0 (s .marks)
-
-some-tested : all someMarks shapes ≡ true
-unfolding someMarks all shapes noShape bar tri quad tetra
-some-tested = refl
-
-none-tested : someMarks noShape ≡ true
-unfolding someMarks noShape
-none-tested = refl
-
--- a type of the table has a mark
-pub type-marks : (t : ℕ) → 0 < shape t .dimension → 0 < shape t .marks
-unfolding shape someMarks
-type-marks t h =
-    ⊎-elim (λ (z : eqb (getD shapes t noShape .dimension) 0 ≡ true). absurd (omega (arith, eqb-true (getD shapes t noShape .dimension) 0 z)))
-    (λ (l : ltb 0 (getD shapes t noShape .marks) ≡ true). ltb-true 0 (getD shapes t noShape .marks) l)
-    (or-cases (eqb (getD shapes t noShape .dimension) 0) (ltb 0 (getD shapes t noShape .marks)) (all-get someMarks shapes noShape t some-tested none-tested))
 
 -- what is gathered is the holders of the mark
 pub gathered-holders : (w : List ℕ) (caps : Caps) (v : ℕ) (zeros cells : List ℕ) (n : ℕ) → Gathered w caps v zeros n cells → length zeros ≡ 128

@@ -28,7 +28,7 @@ use Rattle.chain.proofs.Readied.{chain-holders}
 use Rattle.checks.specs.Checked.{Checked}
 use Rattle.checks.proofs.Rows.{marks-of, cells-of, code-of}
 use Rattle.admit.specs.Admit.{fullIn, Same}
-use Rattle.admit.proofs.Alike.{type-marks}
+use Rattle.shapes.proofs.Today.{type-marks}
 
 module _ (w : List ℕ) (caps : Caps) (c t : ℕ) (marks : List ℕ) where
   pub in-outside : caps .cells ≤ c → Checked w caps (λ m. insertChecks m c t marks) (Refused CellOutside)

@@ -24,7 +24,7 @@ use Rattle.map.specs.declared.Verdict.{Verdict}
 use Rattle.map.specs.declared.Verdict.the-variants.{Accepted, Refused}
 use Rattle.picture.specs.State.{capsOf, stateOf}
 use Rattle.picture.specs.Picture.{Wf}
-use Rattle.chain.proofs.Readied.{four-marks}
+use Rattle.shapes.proofs.Today.{four-marks}
 use Rattle.sibling.proofs.Part.{marks-read}
 use Rattle.picture.proofs.Settles.{wf-pic}
 use Rattle.checks.specs.Checked.{Checked}

@@ -8,8 +8,8 @@ use native.Mathlib.Omega.{arith}
 use lib.ListN.{getD, length}
 use Rattle.numbers.specs.Half.{halfOf}
 use Rattle.numbers.proofs.Inverse.{half-uncut}
-use Rattle.shapes.specs.Shapes.{Shape, noShape, shapes, shape, facetCount}
-use Rattle.shapes.proofs.Read.{no-code}
+use Rattle.shapes.proofs.Today.{four-facets, four-types}
+use Rattle.shapes.specs.Shapes.{shape, facetCount}
 use Rattle.store.specs.declared.Caps.{Caps}
 use Rattle.store.specs.Layout.{markAt, cellAt, Head, Mark, Cell, address}
 use Rattle.map.specs.Cells.{Map, facetsAt, cellsOf}
@@ -20,22 +20,9 @@ use Rattle.laws.proofs.Halves.{half-live}
 use Rattle.picture.specs.State.{next, capsOf, stateOf}
 use Rattle.picture.specs.Picture.{wordOf, Wf}
 use Rattle.picture.proofs.Writers.{anchor-word, count-word}
-use Rattle.sibling.proofs.OnPicture.{facets-count, facets-four}
+use Rattle.sibling.proofs.OnPicture.{facets-count}
 use Rattle.sibling.proofs.OneWord.{sibling-slot}
 use Rattle.checks.proofs.Rows.{marks-of, cells-of}
-
--- a type of the table has a code from 1 to 4
-type-range : (t : ℕ) → (shape t .dimension ≡ 0 → ⊥) → (1 ≤ t) × (t ≤ 4)
-unfolding shape shapes noShape
-type-range t some = go (decLt 0 t) (decLt t 5)
-  where
-    zero-of : (0 < t → ⊥) → t ≡ 0
-    zero-of f = omega arith
-
-    go : Dec (0 < t) → Dec (t < 5) → (1 ≤ t) × (t ≤ 4)
-    go (yes a) (yes b) = (a, omega arith)
-    go (yes a) (no b) = absurd (some (ap (λ (s : Shape). s .dimension) (no-code t (omega arith))))
-    go (no a) d = absurd (some (ap (λ (n : ℕ). shape n .dimension) (zero-of a)))
 
 module _ (w : List ℕ) (caps : Caps) (m : Map) (e : capsOf m ≡ caps) (wf : Wf w m) where
   module _ (c f : ℕ) (hc : c < m .cells) (hf : f < facetCount (m .at c .code)) where
@@ -45,7 +32,7 @@ module _ (w : List ℕ) (caps : Caps) (m : Map) (e : capsOf m ≡ caps) (wf : Wf
 
     facet-four : f < 4
     unfolding facetCount
-    facet-four = omega (arith, facets-four (m .at c .code))
+    facet-four = omega (arith, four-facets (m .at c .code))
 
     -- the number is that of a live half-facet
     pub half-is : Half m (halfOf c f)
@@ -74,4 +61,4 @@ module _ (w : List ℕ) (caps : Caps) (m : Map) (e : capsOf m ≡ caps) (wf : Wf
   -- the word of a type is its count
   pub count-is : (t : ℕ) → (shape t .dimension ≡ 0 → ⊥) → getD w (4 + t) 0 ≡ length (cellsOf m t)
   unfolding address stateOf
-  count-is t some = wf .picture .words (Head (4 + t)) (omega (arith, type-range t some)) ∙ count-word (capsOf m) (stateOf m) t 0 (type-range t some .0) (type-range t some .1)
+  count-is t some = wf .picture .words (Head (4 + t)) (omega (arith, four-types t (omega arith))) ∙ count-word (capsOf m) (stateOf m) t 0 (four-types t (omega arith) .0) (four-types t (omega arith) .1)

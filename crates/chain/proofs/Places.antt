@@ -8,6 +8,7 @@ use native.Mathlib.Omega.{arith}
 use borrow.Author.Tests.{eq-eqb, ne-eqb, lt-ltb}
 use lib.Dec.{eqb}
 use lib.ListN.{getD, length}
+use Rattle.lists.specs.Lists.{repeats}
 use Rattle.lists.proofs.Members.{has-at, once}
 use Rattle.store.specs.declared.Caps.{Caps}
 use Rattle.store.specs.Layout.{markAt, cellAt, Mark, Cell, address}
@@ -47,6 +48,32 @@ module _ (w : List ℕ) (caps : Caps) (c v : ℕ) where
       go false true z = omega arith
       go false false true = omega arith
       go false false false = omega arith
+
+-- the corner of a mark is the one where it stands among the marks
+module _ (w : List ℕ) (caps : Caps) (c : ℕ) (marks : List ℕ) (word : (i : ℕ) → i < 3 → getD w (cellAt (caps .marks) c + suc i) 0 ≡ getD marks i 0)
+    (distinct : repeats marks ≡ false) (four : length marks ≤ 4) where
+  pub corner-of : (v j : ℕ) → j < length marks → getD marks j 0 ≡ v → cornerIn w caps c v ≡ j
+  corner-of v j hj e = go (ℕ-discrete (getD marks 0 0) v) (ℕ-discrete (getD marks 1 0) v) (ℕ-discrete (getD marks 2 0) v)
+    where
+      one : (i : ℕ) → i ≤ j → getD marks i 0 ≡ v → i ≡ j
+      one i a q = once marks distinct i j (omega arith) hj (q ∙ sym e)
+
+      past : (i : ℕ) → (getD marks i 0 ≡ v → ⊥) → j ≡ i → ⊥
+      past i f z = f (rw (← z) e)
+
+      not-at : (i : ℕ) (h : i < 3) → (getD marks i 0 ≡ v → ⊥) → getD w (cellAt (caps .marks) c + suc i) 0 ≡ v → ⊥
+      not-at i h f q = f (sym (word i h) ∙ q)
+
+      go : Dec (getD marks 0 0 ≡ v) → Dec (getD marks 1 0 ≡ v) → Dec (getD marks 2 0 ≡ v) → cornerIn w caps c v ≡ j
+      go (yes a) b d = corner-0 w caps c v (word 0 (omega arith) ∙ a) ∙ one 0 (omega arith) a
+      go (no f) (yes b) d =
+          corner-1 w caps c v (not-at 0 (omega arith) f) (word 1 (omega arith) ∙ b) ∙ one 1 (omega (arith, past 0 f)) b
+      go (no f) (no g) (yes d) =
+          corner-2 w caps c v (not-at 0 (omega arith) f) (not-at 1 (omega arith) g) (word 2 (omega arith) ∙ d)
+          ∙ one 2 (omega (arith, past 0 f, past 1 g)) d
+      go (no f) (no g) (no k) =
+          corner-3 w caps c v (not-at 0 (omega arith) f) (not-at 1 (omega arith) g) (not-at 2 (omega arith) k)
+          ∙ omega (arith, past 0 f, past 1 g, past 2 k, four)
 
 -- the link that is read
 pub link-read : (w : List ℕ) (caps : Caps) (c v k x : ℕ) → k ≡ cornerIn w caps c v → x ≡ getD w (cellAt (caps .marks) c + (9 + k)) 0 → x ≡ linkIn w caps c v
@@ -97,35 +124,14 @@ module _ (w : List ℕ) (caps : Caps) (s : State) (p : Pic w caps s) (v : ℕ) (
 module _ (w : List ℕ) (caps : Caps) (s : State) (p : Pic w caps s) (l : Linked caps s) (v : ℕ) where
   -- the corner of a mark that the cell has is the one where it stands
   pub corner-is : (c j : ℕ) → c < caps .cells → j < length (s .at c .marks) → corner s c j ≡ v → cornerIn w caps c v ≡ j
-  unfolding address wordOf cellWords
-  corner-is c j h hj e = go (ℕ-discrete (corner s c 0) v) (ℕ-discrete (corner s c 1) v) (ℕ-discrete (corner s c 2) v)
+  unfolding address wordOf cellWords corner
+  corner-is c j h hj e = corner-of w caps c (s .at c .marks) word (l .distinct c) (l .corners c) v j hj e
     where
-      word : (i : ℕ) → Type 0
-      word i = getD w (cellAt (caps .marks) c + suc i) 0 ≡ corner s c i
-
-      w0 : word 0
-      w0 = p .words (Cell c 1) (h, omega arith)
-
-      w1 : word 1
-      w1 = p .words (Cell c 2) (h, omega arith)
-
-      w2 : word 2
-      w2 = p .words (Cell c 3) (h, omega arith)
-
-      one : (i : ℕ) → i ≤ j → corner s c i ≡ v → i ≡ j
-      one i a q = corner-once caps s l v c i j (omega arith) hj q e
-
-      past : (i : ℕ) → (corner s c i ≡ v → ⊥) → j ≡ i → ⊥
-      past i f z = f (rw (← z) e)
-
-      go : Dec (corner s c 0 ≡ v) → Dec (corner s c 1 ≡ v) → Dec (corner s c 2 ≡ v) → cornerIn w caps c v ≡ j
-      go (yes a) b d = corner-0 w caps c v (w0 ∙ a) ∙ one 0 (omega arith) a
-      go (no f) (yes b) d = corner-1 w caps c v (λ q. f (sym w0 ∙ q)) (w1 ∙ b) ∙ one 1 (omega (arith, past 0 f)) b
-      go (no f) (no g) (yes d) =
-          corner-2 w caps c v (λ q. f (sym w0 ∙ q)) (λ q. g (sym w1 ∙ q)) (w2 ∙ d) ∙ one 2 (omega (arith, past 0 f, past 1 g)) d
-      go (no f) (no g) (no k) =
-          corner-3 w caps c v (λ q. f (sym w0 ∙ q)) (λ q. g (sym w1 ∙ q)) (λ q. k (sym w2 ∙ q))
-          ∙ omega (arith, past 0 f, past 1 g, past 2 k, l .corners c)
+      word : (i : ℕ) → i < 3 → getD w (cellAt (caps .marks) c + suc i) 0 ≡ getD (s .at c .marks) i 0
+      word zero k = p .words (Cell c 1) (h, omega arith)
+      word (suc zero) k = p .words (Cell c 2) (h, omega arith)
+      word (suc (suc zero)) k = p .words (Cell c 3) (h, omega arith)
+      word (suc (suc (suc i))) k = absurd (omega arith)
 
   -- the link behind a cell of the chain
   pub link-word : (c : ℕ) → c < caps .cells → s .chain v c ≡ true → linkIn w caps c v ≡ link caps s v (suc c)

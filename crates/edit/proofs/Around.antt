@@ -12,6 +12,7 @@ use Rattle.lists.specs.Lists.{has, any, sameSet}
 use Rattle.lists.proofs.Bools.{clash, not-true-false}
 use Rattle.lists.proofs.Members.{at-any}
 use Rattle.lists.proofs.Sets.{same-refl}
+use Rattle.shapes.proofs.Today.{four-facets}
 use Rattle.shapes.specs.Shapes.{shape, shapes, noShape}
 use Rattle.shapes.specs.Table.{table}
 use Rattle.store.specs.declared.Caps.{Caps}
@@ -27,7 +28,7 @@ use Rattle.picture.specs.Picture.{chainOf, link, corner, linkWord, headWords, m
 use Rattle.picture.specs.Changes.{withCount}
 use Rattle.picture.proofs.Put.{pic-same}
 use Rattle.picture.proofs.Alike.{state-same}
-use Rattle.sibling.proofs.OnPicture.{facets-four, facets-count}
+use Rattle.sibling.proofs.OnPicture.{facets-count}
 use Rattle.settle.specs.Settle.{setsOf, among, MaySettle, settled}
 use Rattle.edit.specs.Edit.{withLinks}
 
@@ -58,16 +59,6 @@ module _ (caps : Caps) (s : State) (count : ℕ → ℕ) (same : (t : ℕ) → 1
   -- counts are stored for the types 1 to 4
   pub pic-counts : (w : List ℕ) → Pic w caps s → Pic w caps (withCounts s count)
   pic-counts w p = pic-same w caps s (withCounts s count) (λ z h. counts-words z) p
-
--- and the codes of the table are these
-pub typed-four : (t : ℕ) → 0 < shape t .dimension → (1 ≤ t) × (t ≤ 4)
-unfolding shape shapes noShape
-typed-four zero l = absurd (omega arith)
-typed-four (suc zero) l = (omega arith, omega arith)
-typed-four (suc (suc zero)) l = (omega arith, omega arith)
-typed-four (suc (suc (suc zero))) l = (omega arith, omega arith)
-typed-four (suc (suc (suc (suc zero)))) l = (omega arith, omega arith)
-typed-four (suc (suc (suc (suc (suc t))))) l = absurd (omega arith)
 
 -- from m to m′ a cell of type t on these marks, under the number c, comes or goes
 pub record Turn (m m′ : Map) (c t : ℕ) (marks : List ℕ) : Type 0 where
@@ -148,7 +139,7 @@ module _ (m : Map) (h : ℕ) where
   pub past-sib : 4 ≤ h % 8 → stateOf m .sib h ≡ 0
   unfolding stateOf isHalf
   past-sib l =
-      rw (le-ltb (h % 8) (length (facetsAt m (h / 8))) (omega (arith, facets-count m (h / 8), facets-four (m .at (h / 8) .code))))
+      rw (le-ltb (h % 8) (length (facetsAt m (h / 8))) (omega (arith, facets-count m (h / 8), four-facets (m .at (h / 8) .code))))
 
 module _ (m m′ : Map) (c t : ℕ) (marks : List ℕ) (r : Turn m m′ c t marks) (h : ℕ) (e : among m′ (setsOf t marks) h ≡ false) where
   -- the set of a half-facet is none of the sets

@@ -22,10 +22,10 @@ use Rattle.picture.specs.Picture.{chainOf, Pic, Wf}
 use Rattle.picture.specs.Changes.{withBody, withCount}
 use Rattle.picture.specs.Writes.{MayWrite}
 use Rattle.chain.specs.Chain.{Linked}
-use Rattle.chain.proofs.Readied.{four-marks}
+use Rattle.shapes.proofs.Today.{four-marks, four-types}
 use Rattle.settle.specs.Settle.{MaySettle, settled}
 use Rattle.edit.specs.Edit.{withLinks, MayLink}
-use Rattle.edit.proofs.Around.{typed-four, Turn, turn-in, links-hold, Around, no-sib, around-settle, around-wf}
+use Rattle.edit.proofs.Around.{Turn, turn-in, links-hold, Around, no-sib, around-settle, around-wf}
 
 -- the state with the cell's body, and then in the chains of its marks
 abbrev pub bodied : Map → ℕ → ℕ → List ℕ → State
@@ -95,7 +95,7 @@ module _ (m : Map) (s : Sound m) (c t : ℕ) (marks : List ℕ) (r : MayInsert m
   may-settle = around-settle (capsOf m) m c t marks (joined m c t marks) (rw same-map turn) around
 
   pub may-count : (1 ≤ t) × (t ≤ 4)
-  may-count = typed-four t (r .typed)
+  may-count = four-types t (r .typed)
 
   pub inserted : (w : List ℕ) → Pic w (capsOf m) (withCount (settled (capsOf m) (joined m c t marks)) t (suc (length (cellsOf m t))))
       → Wf w (changed m (Insert c t marks))

@@ -8,6 +8,7 @@ use borrow.Author.Tests.{ne-eqb, eqb-false}
 use lib.Dec.{eqb}
 use lib.ListN.{length}
 use Rattle.lists.specs.Lists.{has}
+use Rattle.shapes.proofs.Today.{four-types}
 use Rattle.shapes.specs.Table.{table}
 use Rattle.words.proofs.Frame.{only-then}
 use Rattle.store.specs.declared.Caps.{Caps}
@@ -26,7 +27,7 @@ use Rattle.chain.proofs.Readied.{ready-linked}
 use Rattle.settle.specs.Settle.{MaySettle, settled}
 use Rattle.edit.specs.Edit.{withLinks, MayUnlink}
 use Rattle.edit.specs.Cleared.{cleared}
-use Rattle.edit.proofs.Around.{typed-four, Turn, turn-out, links-hold, Around, past-sib, around-settle, around-wf}
+use Rattle.edit.proofs.Around.{Turn, turn-out, links-hold, Around, past-sib, around-settle, around-wf}
 
 -- the state with the cell out of the chains of its marks, then with no cell there, then with no siblings of it
 abbrev pub parted : Map → ℕ → State
@@ -140,7 +141,7 @@ module _ (m : Map) (s : Sound m) (c : ℕ) (r : MayRemove m c) where
 
   pub may-count : (1 ≤ m .at c .code) × (m .at c .code ≤ 4)
   unfolding dimensionAt
-  may-count = typed-four (m .at c .code) (s .typed c (r .live))
+  may-count = four-types (m .at c .code) (s .typed c (r .live))
 
   pub removed : (w : List ℕ)
       → Pic w (capsOf m) (withCount (settled (capsOf m) (gone m c)) (m .at c .code) (length (cellsOf m (m .at c .code)) - 1))

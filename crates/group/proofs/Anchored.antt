@@ -10,6 +10,7 @@ use native.Mathlib.Omega.{arith}
 use borrow.Author.Tests.{eq-eqb, eqb-true, lt-ltb, le-ltb}
 use lib.Dec.{eqb}
 use lib.ListN.{length, getD, drop, List·getD-eq-default, List·getD-append}
+use Rattle.shapes.proofs.Today.{four-facets}
 use Rattle.lists.specs.Lists.{has, select, first}
 use Rattle.lists.specs.Ascending.{Ascending}
 use Rattle.lists.specs.Filled.{Copied}
@@ -32,7 +33,7 @@ use Rattle.picture.specs.State.{State, mapWith, next}
 use Rattle.picture.specs.Picture.{Pic}
 use Rattle.facet.specs.Facet.{facetIn}
 use Rattle.sibling.proofs.Mapped.{map-ascends}
-use Rattle.sibling.proofs.OnPicture.{facet-read, facets-count, facets-four}
+use Rattle.sibling.proofs.OnPicture.{facet-read, facets-count}
 use Rattle.sibling.proofs.OneWord.{sibling-slot}
 use Rattle.star.specs.Listed.{Gives, Reads, AtMark}
 use Rattle.group.specs.Group.{Around}
@@ -97,7 +98,7 @@ module _ (w : List ℕ) (caps : Caps) (rows : List (List (List ℕ))) (d v : ℕ
 
     own-word : getD w (cellAt (caps .marks) (getD cells (x / 8) 0) + (5 + x % 8)) 0 ≡ sibling m (halfAt cells x)
     own-word =
-        let few : x % 8 < 4 = omega (arith, facet-there m (getD cells (x / 8) 0) (x % 8) v e, facets-count m (getD cells (x / 8) 0), facets-four (m .at (getD cells (x / 8) 0) .code)) in
+        let few : x % 8 < 4 = omega (arith, facet-there m (getD cells (x / 8) 0) (x % 8) v e, facets-count m (getD cells (x / 8) 0), four-facets (m .at (getD cells (x / 8) 0) .code)) in
         sibling-read w caps s p (getD cells (x / 8) 0) (x % 8) (cell-below (x / 8) h) few ∙ a .settled .siblings (halfAt cells x) (half-here .1 .facet)
 
     border-here : borderIn w caps (getD cells (x / 8) 0) (x % 8) ≡ border m (halfAt cells x)

@@ -11,3 +11,5 @@ pub mod Keep
 pub mod Counts
 pub mod Alike
 pub mod Cyclic
+pub mod Every
+pub mod Through

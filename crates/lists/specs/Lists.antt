@@ -67,3 +67,8 @@ steps f (suc n) h = f (steps f n h)
 unfoldable pub listOf : ℕ → (ℕ → ℕ) → List ℕ
 listOf zero f = []
 listOf (suc n) f = listOf n f ++ (f n ∷ [])
+
+-- all numbers below n pass
+unfoldable pub every : ℕ → (ℕ → Bool) → Bool
+every zero p = true
+every (suc n) p = every n p && p n

@@ -27,7 +27,7 @@ use Rattle.picture.specs.Changes.{withBody, withCount}
 use Rattle.picture.specs.Writes.{MayWrite}
 use Rattle.picture.specs.Step.{Step}
 use Rattle.picture.proofs.Settles.{wf-pic}
-use Rattle.chain.proofs.Readied.{four-marks}
+use Rattle.shapes.proofs.Today.{four-marks}
 use Rattle.facet.specs.Facet.{cornerIn}
 use Rattle.sibling.proofs.Mapped.{list-at}
 use Rattle.sibling.proofs.OnPicture.{corner-read}

@@ -10,6 +10,7 @@ use borrow.Author.Tests.{ltb-true, eqb-true}
 use lib.Dec.{eqb}
 use lib.ListN.{getD, length, take, drop, List·getD-append}
 use lib.Seq.{take-suc, take-all, getD-append-add}
+use Rattle.shapes.proofs.Today.{four-facets}
 use Rattle.lists.specs.Lists.{has, after}
 use Rattle.lists.specs.Ascending.{Ascending}
 use Rattle.lists.specs.Filled.{Copied}
@@ -24,7 +25,7 @@ use Rattle.picture.specs.State.{State, mapWith}
 use Rattle.picture.specs.Changes.{withSib}
 use Rattle.picture.specs.Step.{Step}
 use Rattle.sibling.specs.Shared.{Shared, MayMend, mended}
-use Rattle.sibling.proofs.OnPicture.{facets-four, facets-count}
+use Rattle.sibling.proofs.OnPicture.{facets-count}
 
 -- the first i half-facets of a list lead to the next of it
 unfoldable pub ledTo : List ℕ → ℕ → State → State
@@ -85,7 +86,7 @@ sharer-word caps s set h e =
     let x = sharers-has (mapWith caps s) set h e in (
       omega (arith, x .0 .below),
       omega
-          (arith, ltb-true (h % 8) (length (facetsAt (mapWith caps s) (h / 8))) (x .0 .facet), facets-count (mapWith caps s) (h / 8), facets-four (mapWith caps s .at (h / 8) .code)),
+          (arith, ltb-true (h % 8) (length (facetsAt (mapWith caps s) (h / 8))) (x .0 .facet), facets-count (mapWith caps s) (h / 8), four-facets (mapWith caps s .at (h / 8) .code)),
     )
 
 -- the sharers of a set, the first i of them mended

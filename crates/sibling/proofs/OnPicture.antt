@@ -17,6 +17,7 @@ use Rattle.shapes.specs.Shapes.{Shape, noShape, bar, tri, quad, tetra, shapes, 
 use Rattle.shapes.specs.Table.{table, entry}
 use Rattle.shapes.specs.Facts.{facetAt}
 use Rattle.shapes.proofs.Facts.{facts}
+use Rattle.shapes.proofs.Today.{four-marks, four-facets}
 use Rattle.shapes.proofs.Padded.{table-size, table-place}
 use Rattle.store.specs.declared.Caps.{Caps}
 use Rattle.store.specs.Layout.{Cell, address}
@@ -31,23 +32,6 @@ use Rattle.chain.specs.Chain.{Linked}
 use Rattle.facet.specs.Facet.{codeIn, cornerIn, sizeIn, facetMark, facetIn, matchIn}
 use Rattle.sibling.specs.Halves.{matchAt}
 use Rattle.sibling.proofs.Mapped.{list-map}
-
--- a type has at most four marks and four facets
-marks-test : all (λ (s : Shape). leb (s .marks) 4) shapes ≡ true
-unfolding all shapes noShape bar tri quad tetra
-marks-test = refl
-
-pub marks-four : (t : ℕ) → shape t .marks ≤ 4
-unfolding shape noShape
-marks-four t = leb-true _ _ (all-get (λ (s : Shape). leb (s .marks) 4) shapes noShape t marks-test refl)
-
-facets-test : all (λ (s : Shape). leb (length (s .facets)) 4) shapes ≡ true
-unfolding all shapes noShape bar tri quad tetra
-facets-test = refl
-
-pub facets-four : (t : ℕ) → length (shape t .facets) ≤ 4
-unfolding shape noShape
-facets-four t = leb-true _ _ (all-get (λ (s : Shape). leb (length (s .facets)) 4) shapes noShape t facets-test refl)
 
 -- the word of a cell's corner
 corner-slot : (caps : Caps) (s : State) (c k : ℕ) → k < 4 → wordOf caps s (Cell c (1 + k)) ≡ getD (s .at c .marks) k 0
@@ -75,7 +59,7 @@ module _ (w : List ℕ) (caps : Caps) (s : State) (p : Pic w caps s) (c : ℕ) (
       (list-map ps (facetMark w caps table c f) mark
       (λ k l.
       let place : entry table t f (suc k) ≡ getD ps k 0 = table-place t f k (omega (arith, few)) in
-      rw (code-read, place) (corner-read (getD ps k 0) (omega (arith, inside k l, marks-four t))))
+      rw (code-read, place) (corner-read (getD ps k 0) (omega (arith, inside k l, four-marks t))))
       ∙ sym (List·getD-map (map mark) (shape t .facets) f []))
     where
       t : ℕ
@@ -140,13 +124,3 @@ module _ (m : Map) (o : Sound m) (c : ℕ) where
       there : (j k : ℕ) → ((v : ℕ) → has v (getD (facetsAt m c) j []) ≡ has v (getD (facetsAt m c) k [])) → (v : ℕ)
           → has v (facetAt (shape t) j) ≡ true → has v (facetAt (shape t) k) ≡ true
       there j k same v q = facet-place k v (below j v q) (sym (same (getD (m .at c .marks) v 0)) ∙ facet-mark m c j v q)
-
--- a state that is ready has chains as they should be
-pub ready-linked : (caps : Caps) (s : State) → Ready caps s → Linked caps s
-unfolding holds mapWith chainOf holders
-ready-linked caps s r = record {
-  held = λ v c e. sym (r .chains v c) ∙ e;
-  corners = λ c. omega (arith, r .sound .fitting c, marks-four (s .at c .code));
-  distinct = λ c. r .sound .distinct c;
-  few = λ v. rw (select-same (s .chain v) (holds (mapWith caps s) v) (caps .cells) (λ c l. r .chains v c)) (r .sound .few v);
-}

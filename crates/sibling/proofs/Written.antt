@@ -24,10 +24,11 @@ use Rattle.picture.specs.Picture.{Pic, chainOf}
 use Rattle.picture.specs.Ready.{Ready}
 use Rattle.chain.specs.Chain.{Gathered}
 use Rattle.facet.specs.Facet.{matchIn}
-use Rattle.sibling.specs.Shared.{Asked}
+use Rattle.sibling.specs.Shared.{Shared, Asked}
 use Rattle.sibling.specs.Halves.{matchAt, halvesOf, halvesCut}
 use Rattle.sibling.proofs.Mapped.{map-same, keep-end}
-use Rattle.sibling.proofs.OnPicture.{match-read, ready-linked}
+use Rattle.chain.proofs.Readied.{ready-linked}
+use Rattle.sibling.proofs.OnPicture.{match-read}
 use Rattle.sibling.proofs.Along.{sharers-along}
 
 module _ (match : ℕ → ℕ) (cells o : List ℕ) where
@@ -87,3 +88,8 @@ shared-list w caps rows set zeros cells o v count n o′ e g h was s p r q =
     (omega (arith, p .cells), rw (q .types) (match-read w caps s p c below set)))
     ∙ rw e (sym (sharers-along caps rows set s r q))) in
     rw along at was
+
+-- the same answer by another name of the set
+pub shared-same : (w : List ℕ) (caps : Caps) (rows : List (List (List ℕ))) (set set′ o o′ : List ℕ) (n : ℕ) → set ≡ set′ → Shared w caps rows set o n o′
+    → Shared w caps rows set′ o n o′
+shared-same w caps rows set set′ o o′ n e s = rw e at s

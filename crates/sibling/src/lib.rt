@@ -1,6 +1,6 @@
 // The half-facets with one set of marks, and their siblings.
 //
-// What is here: `sharers` lists the half-facets with a set of marks, `put_sibling` writes one sibling, `mend` makes each of a set lead
+// What is here: `sharers` lists the half-facets with a set of marks, `facet_sharers` those with the marks of a facet, `put_sibling` writes one sibling, `mend` makes each of a set lead
 // to the next. All are total on any memory. What is proved: on the picture of a state whose cells make a sound map and whose chains
 // are right, the list is that of the definitions and the siblings are left as specs/Shared.antt says; on any memory nothing beyond
 // the room changes. What a caller should know: the set's first mark leads to its cells, so it must be a mark of the mesh; the table is
@@ -8,13 +8,16 @@
 ghost use Prim.Native.Nat.{_/_, _%_, _<_};
 ghost use Rattle.picture.specs.Step.{Step};
 ghost use Rattle.picture.specs.Changes.{withSib};
+ghost use Rattle.facet.specs.Facet.{facetIn};
 ghost use Rattle.sibling.specs.Shared.{Shared, MayMend, mended};
 use chain::gather;
+use facet::copy_facet;
 use facet::matching;
 use numbers::Cell;
 use numbers::half_of;
 use store::Caps;
 use store::put_cell;
+use words::part;
 use words::put;
 use words::word;
 
@@ -37,6 +40,22 @@ pub fn sharers(w: &[u32], caps: Caps, rows: &[[[u8; 5]; 6]; 5], set: &[u32], out
         i += 1;
     }
     n
+}
+
+// The half-facets with the marks of a facet, ascending, written to the first places of out; how many there are.
+pub fn facet_sharers(
+    w: &[u32],
+    caps: Caps,
+    rows: &[[[u8; 5]; 6]; 5],
+    c: u32,
+    f: u32,
+    out: &mut [u32],
+) -> u32
+    ensures { λ r. ⌜ Shared (now (w .entry)) caps (now (rows .entry)) (facetIn (now (w .entry)) caps (now (rows .entry)) c f) (now (out .entry)) r (now (out .exit)) ⌝ }
+{
+    let mut marks = [0u32; 4];
+    let n = copy_facet(w, caps, rows, c, f, &mut marks);
+    sharers(w, caps, rows, part(&marks, 0, n as usize), out)
 }
 
 // The sibling of a half-facet, written.

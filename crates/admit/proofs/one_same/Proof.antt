@@ -6,7 +6,7 @@ use native.Mathlib.Omega.{arith}
 use lib.ListN.{getD}
 use Rattle.lists.specs.Lists.{any, listOf}
 use Rattle.admit.specs.Admit.{sameIn}
-use Rattle.admit.proofs.Alike.{none-start, none-more, one-there, none-all}
+use Rattle.lists.proofs.Through.{none-start, none-more, one-there, none-all}
 use borrow.Author.Needs.{needs}
 use Rattle.admit.proofs.one_same.Statement.{statement}
 use Rattle.admit.proofs.one_same.Tie as tie

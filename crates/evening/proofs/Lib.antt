@@ -1,0 +1,7 @@
+-- Demand 3, as theorems about the memory.
+pub mod Stories
+pub mod Afresh
+pub mod Halves
+pub mod Kept
+pub mod Records
+pub mod Walks

@@ -1,0 +1,126 @@
+-- What one record fixes, in any two well-formed memories: a cell's record its siblings, a mark's record its first anchors. And the head's
+-- live counts.
+use mathlib.Core.Path.{_≡_, refl, sym, ap, ap₂, _∙_}
+use mathlib.Core.Bool.{Bool, true, false, cond, not, _||_}
+use mathlib.Core.List.{List, [], _∷_}
+use Prim.Native.Nat.{ℕ, _+_, _<_, _≤_}
+use native.Mathlib.Decide.{decLt}
+use native.Mathlib.Omega.{arith}
+use borrow.Author.Tests.{le-leb, lt-leb, lt-ltb}
+use lib.Dec.{leb, ltb}
+use lib.ListN.{getD, length, take}
+use Rattle.lists.specs.Lists.{any}
+use Rattle.lists.proofs.Bools.{clash, or-left, or-right}
+use Rattle.numbers.specs.Half.{halfOf}
+use Rattle.shapes.specs.Shapes.{facetCount}
+use Rattle.store.specs.Layout.{markAt, cellAt, Head, address}
+use Rattle.map.specs.Cells.{Map, live, cellsOf}
+use Rattle.map.specs.Siblings.{sibling}
+use Rattle.map.specs.Stars.{anchors}
+use Rattle.map.specs.Answers.{Check, Answer, _when_, answer, cellChecks, halfChecks, starChecks, siblingAnswer, firstAnchorAnswer}
+use Rattle.picture.specs.State.{next, capsOf, stateOf}
+use Rattle.picture.specs.Picture.{Wf}
+use Rattle.picture.proofs.Writers.{count-word}
+use Rattle.shapes.proofs.Today.{four-facets}
+use Rattle.checks.proofs.Rows.{code-of}
+use Rattle.ask.proofs.Words.{sibling-is, anchor-is}
+
+-- two lists with the same first as number + 1 have the same first
+next-one : (a b : List ℕ) → next a ≡ next b → take 1 a ≡ take 1 b
+unfolding next
+next-one [] [] e = refl
+next-one [] (y ∷ b) e = absurd (omega (arith, e))
+next-one (x ∷ a) [] e = absurd (omega (arith, e))
+next-one (x ∷ a) (y ∷ b) e = let z : x ≡ y = omega (arith, e) in ap (λ (n : ℕ). n ∷ []) z
+
+-- where a check fails the values do not matter
+moot : (checks : List Check) (a b : List ℕ) → any (λ (x : Check). x .fails) checks ≡ true → answer checks a ≡ answer checks b
+unfolding answer any
+moot [] a b e = absurd (clash e refl)
+moot (x ∷ checks) a b e = go (x .fails) e (moot checks a b)
+  where
+    no : Answer
+    no = record { refusal = x .number; values = [] }
+
+    go : (t : Bool) → t || any (λ (x : Check). x .fails) checks ≡ true
+        → (any (λ (x : Check). x .fails) checks ≡ true → answer checks a ≡ answer checks b)
+        → cond t no (answer checks a) ≡ cond t no (answer checks b)
+    go true e f = refl
+    go false e f = f e
+
+module _ {w w′ : List ℕ} {m m′ : Map} (wf : Wf w m) (wf′ : Wf w′ m′) where
+  -- one cell number, below both capacities, with the same 16 words in both records
+  module _ (c : ℕ) (below : c < m .cells) (below′ : c < m′ .cells)
+      (same : (k : ℕ) → k < 16 → getD w (cellAt (m .marks) c + k) 0 ≡ getD w′ (cellAt (m′ .marks) c + k) 0) where
+    -- the cell is of one type in both
+    pub code-fixed : m .at c .code ≡ m′ .at c .code
+    unfolding capsOf
+    code-fixed = sym (code-of (capsOf m) m refl w wf c below) ∙ (same 0 (omega arith) ∙ code-of (capsOf m′) m′ refl w′ wf′ c below′)
+
+    -- and each of its facets has the same sibling in both
+    pub sibling-fixed : (f : ℕ) → f < facetCount (m .at c .code) → sibling m (halfOf c f) ≡ sibling m′ (halfOf c f)
+    unfolding capsOf facetCount
+    sibling-fixed f h =
+        sym (sibling-is w (capsOf m) m refl wf c f below h)
+        ∙ (same (5 + f) (omega (arith, four-facets (m .at c .code))) ∙ sibling-is w′ (capsOf m′) m′ refl wf′ c f below′ (rw (← code-fixed) h))
+
+    -- the checks of a half-facet come out the same
+    checks-fixed : (f : ℕ) → halfChecks m c f ≡ halfChecks m′ c f
+    unfolding halfChecks cellChecks live
+    checks-fixed f = rw (lt-leb (m .cells) c below, lt-leb (m′ .cells) c below′, code-fixed)
+
+    -- a facet number that is too high fails one
+    facet-fails : (f : ℕ) → leb (facetCount (m .at c .code)) f ≡ true → any (λ (x : Check). x .fails) (halfChecks m c f) ≡ true
+    unfolding halfChecks cellChecks _when_ any
+    facet-fails f e = or-right (leb (m .cells) c) _ (or-right (not (live m c)) _ (or-left _ _ e))
+
+    -- so the sibling query answers the same for every facet number
+    pub sibling-answer-fixed : (f : ℕ) → siblingAnswer m c f ≡ siblingAnswer m′ c f
+    unfolding siblingAnswer
+    sibling-answer-fixed f = go (decLt f (facetCount (m .at c .code)))
+      where
+        go : Dec (f < facetCount (m .at c .code)) → siblingAnswer m c f ≡ siblingAnswer m′ c f
+        go (yes h) = ap₂ answer (checks-fixed f) (ap (λ (n : ℕ). n ∷ []) (sibling-fixed f h))
+        go (no n) =
+            moot (halfChecks m c f) _ _ (facet-fails f (le-leb (facetCount (m .at c .code)) f (omega arith)))
+            ∙ ap (λ (checks : List Check). answer checks (sibling m′ (halfOf c f) ∷ [])) (checks-fixed f)
+
+  -- one mark number, below both capacities, with the same 8 words in both records
+  module _ (v : ℕ) (below : v < m .marks) (below′ : v < m′ .marks)
+      (same : (k : ℕ) → k < 8 → getD w (markAt v + k) 0 ≡ getD w′ (markAt v + k) 0) where
+    -- the mark has the same first anchor in both, or none in both, in each dimension
+    pub first-anchor-fixed : (d : ℕ) → 1 ≤ d → d ≤ 3 → take 1 (anchors m d v) ≡ take 1 (anchors m′ d v)
+    first-anchor-fixed d low high =
+        next-one (anchors m d v) (anchors m′ d v)
+        (sym (anchor-is w (capsOf m) m refl wf d v low high below)
+        ∙ (same (1 + d) (omega arith) ∙ anchor-is w′ (capsOf m′) m′ refl wf′ d v low high below′))
+
+    -- the checks of a mark and a dimension come out the same
+    dimension-fixed : (d : ℕ) → starChecks m d v ≡ starChecks m′ d v
+    unfolding starChecks
+    dimension-fixed d = rw (lt-leb (m .marks) v below, lt-leb (m′ .marks) v below′)
+
+    -- a dimension that is not 1 to 3 fails one
+    dimension-fails : (d : ℕ) → ltb d 1 || ltb 3 d ≡ true → any (λ (x : Check). x .fails) (starChecks m d v) ≡ true
+    unfolding starChecks _when_ any
+    dimension-fails d e = or-left _ _ e
+
+    -- so the first anchor query answers the same for every dimension
+    pub first-anchor-answer-fixed : (d : ℕ) → firstAnchorAnswer m d v ≡ firstAnchorAnswer m′ d v
+    unfolding firstAnchorAnswer
+    first-anchor-answer-fixed d = go (decLt d 1) (decLt 3 d)
+      where
+        beyond : ltb d 1 || ltb 3 d ≡ true → firstAnchorAnswer m d v ≡ firstAnchorAnswer m′ d v
+        beyond e =
+            moot (starChecks m d v) _ _ (dimension-fails d e)
+            ∙ ap (λ (checks : List Check). answer checks (take 1 (anchors m′ d v))) (dimension-fixed d)
+
+        go : Dec (d < 1) → Dec (3 < d) → firstAnchorAnswer m d v ≡ firstAnchorAnswer m′ d v
+        go (yes a) b = beyond (or-left _ _ (lt-ltb d 1 a))
+        go (no a) (yes b) = beyond (or-right (ltb d 1) _ (lt-ltb 3 d b))
+        go (no a) (no b) = ap₂ answer (dimension-fixed d) (first-anchor-fixed d (omega arith) (omega arith))
+
+-- the live count of each type in the head is the length of the defined list
+pub count-listed : {w : List ℕ} {m : Map} → Wf w m → (t : ℕ) → 1 ≤ t → t ≤ 4 → getD w (4 + t) 0 ≡ length (cellsOf m t)
+unfolding address stateOf
+count-listed {w} {m} wf t low high = wf .picture .words (Head (4 + t)) (omega arith) ∙ count-word (capsOf m) (stateOf m) t 0 low high

@@ -1,0 +1,19 @@
+-- Steps of a walker one after another, on one memory: each is a result of `ask::step`, and none is refused.
+use mathlib.Core.List.{List}
+use Prim.Native.Nat.{ℕ, zero, suc}
+use Rattle.map.specs.Answers.{stepAnswer}
+use Rattle.map.specs.Paper.{stepSays}
+use Rattle.map.specs.declared.Step.{Step}
+use Rattle.map.specs.declared.Step.the-variants.{Next}
+use Rattle.map.specs.declared.Walker.{Walker}
+use Rattle.ask.specs.Asked.{Asked}
+use Rattle.ask.specs.Refusals.{noStep}
+
+-- what a step of a walker at this place promises
+abbrev pub Stepped : List ℕ → Walker → Step → Type 0
+Stepped w at r = Asked stepSays noStep w (λ m. stepAnswer m (at .0 .0)) r
+
+-- n steps from a place to a place
+pub data Walked (w : List ℕ) : ℕ → Walker → Walker → Type 0 where
+  here : {at : Walker} → Walked w zero at at
+  onward : {n : ℕ} {from at next : Walker} → Walked w n from at → Stepped w at (Next next) → Walked w (suc n) from next

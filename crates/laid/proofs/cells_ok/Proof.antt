@@ -1,0 +1,62 @@
+use borrow.Author.Needs.{needs}
+use Rattle.laid.specs.Laid.{cellIn}
+use Rattle.lists.proofs.Every.{every-start, every-more, every-stop, every-end}
+use Rattle.lists.specs.Lists.{every}
+use borrow.Author.Tests.{not-true, not-false}
+use Prim.Native.Nat.{_-_, _≤_}
+use native.Mathlib.Omega.{arith}
+use mathlib.Core.Bool.{Bool, true, false, not}
+use mathlib.Core.Path.{_≡_, refl, sym, ap, _∙_}
+use Rattle.laid.proofs.cells_ok.Statement.{statement}
+use Rattle.laid.proofs.cells_ok.Tie as tie
+use Rattle.laid.proofs.cells_ok.Reads as reads
+use Rattle.laid.proofs.cells_ok.Lts as lts
+use Rattle.laid.proofs.cell_ok.Reads as cell-ok-reads
+
+abbrev Inv-loop : tie.InvT-loop
+Inv-loop w caps c₀ c = (c ≤ caps .cells) × (every c (cellIn w caps) ≡ true)
+
+abbrev μ-loop : tie.MeasureT-loop
+μ-loop w caps c₀ c = caps .cells - c
+
+-- src/lib.rt:217:5
+loop-holds : tie.Need-loop-holds Inv-loop μ-loop
+loop-holds c = (omega arith, every-start _)
+
+-- src/lib.rt:218:13
+cell-ok-requires : tie.Need-cell-ok-requires Inv-loop μ-loop
+cell-ok-requires c κs = search needs
+
+-- src/lib.rt:219:13
+returns : tie.Need-returns Inv-loop μ-loop
+returns c = every-stop _ _ (c .before .before .before .before .loop .c) (omega arith) (sym (c .before .cell-ok .ensures) ∙ not-true _ (c .if2 .taken))
+
+-- src/lib.rt:221:9
+add-c : tie.Need-add-c Inv-loop μ-loop
+add-c c = search needs
+
+-- src/lib.rt:217:5
+loop-less : tie.Need-loop-less Inv-loop μ-loop
+loop-less c = search needs
+
+-- src/lib.rt:217:5
+loop-again : tie.Need-loop-again Inv-loop μ-loop
+loop-again c = (omega arith, every-more _ (c .before .before .before .before .loop .c) (c .before .before .before .before .loop .inv .1) (sym (c .before .cell-ok .ensures) ∙ not-false _ (c .if2 .left)))
+
+-- src/lib.rt:213:1
+returns-2 : tie.Need-returns-2 Inv-loop μ-loop
+returns-2 c = every-end _ _ (c .before .before .loop .c) (c .before .before .loop .inv .1) (omega arith) (omega arith)
+
+pub cells-ok-spec : {M : Type 1} → statement M
+cells-ok-spec =
+    tie.close
+    (tie.spec
+    Inv-loop
+    μ-loop
+    loop-holds
+    cell-ok-requires
+    returns
+    add-c
+    loop-less
+    loop-again
+    returns-2)

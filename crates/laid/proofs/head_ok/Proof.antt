@@ -1,0 +1,32 @@
+use Rattle.laid.specs.Laid.{headIn}
+use Rattle.laid.proofs.Steps.{and-no, and-yes}
+use borrow.Author.Tests.{not-true, not-false}
+use mathlib.Core.Bool.{Bool, true, false, not}
+use mathlib.Core.Path.{_≡_, refl, sym, ap, _∙_}
+use borrow.Author.Needs.{needs}
+use Rattle.laid.proofs.head_ok.Statement.{statement}
+use Rattle.laid.proofs.head_ok.Tie as tie
+use Rattle.laid.proofs.head_ok.Reads as reads
+use Rattle.laid.proofs.head_ok.Lts as lts
+use Rattle.laid.proofs.blank.Reads as blank-reads
+
+-- src/lib.rt:230:9
+blank-requires : tie.Need-blank-requires
+blank-requires c κs = search needs
+
+-- src/lib.rt:231:9
+returns : tie.Need-returns
+unfolding headIn
+returns c = and-no _ _ (sym (c .before .blank .ensures) ∙ not-true _ (c .if1 .taken))
+
+-- src/lib.rt:233:5
+blank-requires-2 : tie.Need-blank-requires-2
+blank-requires-2 c κs = search needs
+
+-- src/lib.rt:227:1
+returns-2 : tie.Need-returns-2
+unfolding headIn
+returns-2 c = and-yes _ _ _ (sym (c .before .before .blank .ensures) ∙ not-false _ (c .before .if1 .left)) (c .blank2 .ensures)
+
+pub head-ok-spec : {M : Type 1} → statement M
+head-ok-spec = tie.close (tie.spec blank-requires returns blank-requires-2 returns-2)
