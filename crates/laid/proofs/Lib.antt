@@ -3,4 +3,5 @@ pub mod Steps
 pub mod Blanks
 pub mod Chains
 pub mod Seen
+pub mod Uprights
 pub mod Right

@@ -99,7 +99,7 @@ module _ (w : List ℕ) (caps : Caps) (hd : Headed w caps) (laid : laidIn w caps
     unfolding cellIn
     links-pass = and-right (recordIn w caps c) _ (cell-passes c h)
 
-    typed-passes : typedIn (codeIn w caps c) ≡ true
+    pub typed-passes : typedIn (codeIn w caps c) ≡ true
     unfolding recordIn
     typed-passes = and-left (typedIn (codeIn w caps c)) _ record-passes
 

@@ -1,0 +1,239 @@
+-- What the records and the lists read by them are, on the picture of a state.
+use mathlib.Core.Path.{_≡_, refl, sym, ap, _∙_}
+use mathlib.Core.Bool.{Bool, true, false, not, _&&_, _||_}
+use mathlib.Core.List.{List, []}
+use Prim.Native.Nat.{ℕ, zero, suc, _+_, _*_, _%_, _<_, _≤_}
+use native.Mathlib.Numerals.{add-one}
+use native.Mathlib.Omega.{arith}
+use borrow.Author.Tests.{eq-eqb, ne-eqb}
+use lib.Dec.{eqb}
+use lib.ListN.{getD, length, length-append}
+use Rattle.lists.specs.Lists.{has, any, sameSet, select, after, listOf}
+use Rattle.lists.specs.Filled.{Filled, Copied}
+use Rattle.lists.proofs.Bools.{clash, or-left, not-of-false}
+use Rattle.lists.proofs.Members.{at-has}
+use Rattle.lists.proofs.Select.{select-out, select-size}
+use Rattle.lists.proofs.Alike.{any-same}
+use Rattle.lists.proofs.Fill.{filled-take, listOf-take}
+use Rattle.numbers.specs.Half.{halfOf}
+use Rattle.numbers.proofs.Inverse.{half-uncut}
+use Rattle.shapes.specs.Shapes.{noShape, shapes, shape, facetCount}
+use Rattle.shapes.specs.Table.{table}
+use Rattle.shapes.proofs.Today.{four-marks, four-facets, type-marks}
+use Rattle.store.specs.declared.Caps.{Caps}
+use Rattle.store.specs.Layout.{markAt, cellAt, Mark, Cell, address}
+use Rattle.map.specs.Cells.{Map, live, holds, dimensionAt, facetsAt}
+use Rattle.map.specs.Siblings.{sharers, siblings, sibling, marksOf}
+use Rattle.map.specs.Stars.{holders, anchors}
+use Rattle.map.specs.Sound.{Sound}
+use Rattle.laws.proofs.Anchors.{half-facet}
+use Rattle.picture.specs.State.{State, next, mapWith}
+use Rattle.picture.specs.Picture.{chainOf, Pic}
+use Rattle.picture.specs.Ready.{Ready}
+use Rattle.picture.proofs.Writers.{anchor-word}
+use Rattle.chain.specs.Chain.{Gathered}
+use Rattle.facet.specs.Facet.{codeIn, cornerIn, facetIn}
+use Rattle.sibling.specs.Shared.{Shared}
+use Rattle.sibling.proofs.OnPicture.{code-read, corner-read, facet-read, facets-count}
+use Rattle.sibling.proofs.OneWord.{sibling-slot}
+use Rattle.sibling.proofs.Part.{marks-read}
+use Rattle.star.specs.Listed.{Reads}
+use Rattle.group.specs.Group.{Around}
+use Rattle.listing.proofs.Facets.{facet-some, facet-inside}
+use Rattle.laid.specs.Laid.{marksIn}
+use Rattle.laid.specs.Upright.{Upright}
+use Rattle.laid.proofs.Uprights.{upright-chain, upright-linked}
+use Rattle.whole.specs.Tests.{Sees, Readied, SettledBy, twinIn, twinOf, loneOf, sibRight, ancRight, countIn, countRight}
+
+-- a list copied to the first places of an output is what stands there
+copied-list : (l o o′ : List ℕ) (n : ℕ) → Copied l o n o′ → n ≤ length o → listOf n (λ i. getD o′ i 0) ≡ l
+copied-list l o o′ n c room =
+    rw (c .count)
+    (listOf-take o′ (length l) (omega (arith, c .filled .size, c .count)) ∙ filled-take l o o′ (c .filled) (omega (arith, c .count)))
+
+module _ (w : List ℕ) (caps : Caps) (s : State) (p : Pic w caps s) (u : Upright caps s) where
+  -- the marks of a cell
+  marks-is : (k : ℕ) → k < caps .cells → marksIn w caps k ≡ s .at k .marks
+  unfolding marksIn
+  marks-is k h =
+      rw (code-read w caps s p k h, ← u .fitting k)
+      (marks-read w caps s p k h (omega (arith, u .fitting k, four-marks (s .at k .code))))
+
+  -- a twin by the records is one by the map
+  twin-is : (c k : ℕ) → c < caps .cells → k < caps .cells → twinIn w caps c k ≡ twinOf (mapWith caps s) c k
+  unfolding twinIn twinOf mapWith
+  twin-is c k hc hk = rw (marks-is c hc, marks-is k hk, code-read w caps s p c hc, code-read w caps s p k hk)
+
+  -- a live cell has a first mark, one of the mesh
+  first-inside : (c : ℕ) → (s .at c .code ≡ 0 → ⊥) → getD (s .at c .marks) 0 0 < caps .marks
+  unfolding live mapWith dimensionAt holds
+  first-inside c f =
+      let typed = u .typed c (ap not (ne-eqb (s .at c .code) 0 f)) in
+      let some : 0 < length (s .at c .marks) = omega (arith, u .fitting c, type-marks (s .at c .code) typed) in
+      u .inside (getD (s .at c .marks) 0 0) c (at-has (s .at c .marks) 0 some)
+
+  -- what is gathered is the holders of the mark
+  gathered-is : (v n : ℕ) (o o′ : List ℕ) → Gathered w caps v o n o′ → length o ≡ 128 → v < caps .marks
+      → listOf n (λ i. getD o′ i 0) ≡ holders (mapWith caps s) v
+  gathered-is v n o o′ g size h =
+      let l = g .list s p (upright-linked caps s u) h in
+      copied-list (chainOf caps s v) o o′ n
+      (record {
+        count = l .0;
+        filled = record { size = g .size; wrote = λ room. rw (← l .0) (l .1 (omega (arith, l .0))) };
+      }) (omega (arith, g .few)) ∙ upright-chain caps s u v
+
+module _ (w : List ℕ) (caps : Caps) (c : ℕ) where
+  -- the step that looks for another cell of the kind
+  pub lone-none : (x : ℕ) → x ≡ getD w (cellAt (caps .marks) c + 0) 0 → x ≡ 0
+      → Sees w caps (λ s. Upright caps s × (c < caps .cells)) (λ s. loneOf (mapWith caps s) c) true
+  unfolding loneOf mapWith codeIn
+  lone-none x e z = record {
+    sees = λ s p k. sym (or-left (eqb (s .at c .code) 0) _ (eq-eqb (s .at c .code) 0 (sym (code-read w caps s p c (k .1)) ∙ (sym e ∙ z))));
+  }
+
+  holder-below : (s : State) (v j : ℕ) → has j (holders (mapWith caps s) v) ≡ true → j < caps .cells
+  unfolding holders mapWith
+  holder-below s v j t = select-out (holds (mapWith caps s) v) (caps .cells) j t .0
+
+  lone-of : (s : State) (v : ℕ) (r : Bool) → r ≡ any (twinOf (mapWith caps s) c) (holders (mapWith caps s) v) → v ≡ getD (s .at c .marks) 0 0
+      → (s .at c .code ≡ 0 → ⊥) → not r ≡ loneOf (mapWith caps s) c
+  unfolding loneOf mapWith
+  lone-of s v r same first some = rw (ne-eqb (s .at c .code) 0 some, ← first, same)
+
+  pub lone-some : (x v n : ℕ) (o o′ : List ℕ) (r : Bool) → x ≡ getD w (cellAt (caps .marks) c + 0) 0 → (x ≡ 0 → ⊥)
+      → v ≡ getD w (cellAt (caps .marks) c + 1) 0 → Gathered w caps v o n o′ → length o ≡ 128
+      → r ≡ any (twinIn w caps c) (listOf n (λ i. getD o′ i 0))
+      → Sees w caps (λ s. Upright caps s × (c < caps .cells)) (λ s. loneOf (mapWith caps s) c) (not r)
+  unfolding loneOf codeIn cornerIn
+  lone-some x v n o o′ r e f q g size b = record { sees = at }
+    where
+      at : (s : State) → Pic w caps s → Upright caps s × (c < caps .cells) → not r ≡ loneOf (mapWith caps s) c
+      at s p k =
+          let code : s .at c .code ≡ x = sym (code-read w caps s p c (k .1)) ∙ sym e in
+          let first : v ≡ getD (s .at c .marks) 0 0 = q ∙ corner-read w caps s p c (k .1) 0 (omega arith) in
+          let some : s .at c .code ≡ 0 → ⊥ = λ z. f (sym code ∙ z) in
+          let inside : v < caps .marks = rw first (first-inside w caps s p (k .0) c some) in
+          let same : r ≡ any (twinOf (mapWith caps s) c) (holders (mapWith caps s) v) =
+          b ∙ (ap (any (twinIn w caps c)) (gathered-is w caps s p (k .0) v n o o′ g size inside)
+          ∙ any-same (twinIn w caps c) (twinOf (mapWith caps s) c) (holders (mapWith caps s) v) (λ j t. twin-is w caps s p (k .0) c j (k .1) (holder-below s v j t))) in
+          lone-of s v r same first some
+
+-- the step that holds a stored sibling against the sharers
+module _ (w : List ℕ) (caps : Caps) (rows : List (List (List ℕ))) (c f : ℕ) where
+  module _ (s : State) (p : Pic w caps s) (r : Ready caps s) (types : rows ≡ table) (h : c < caps .cells) (hf : f < facetCount (codeIn w caps c)) where
+    m : Map
+    m = mapWith caps s
+
+    few : f < length (facetsAt (mapWith caps s) c)
+    unfolding facetCount mapWith
+    few = omega (arith, facets-count (mapWith caps s) c, ap (λ (t : ℕ). length (shape t .facets)) (code-read w caps s p c h))
+
+    four : f < 4
+    unfolding facetCount
+    four = omega (arith, four-facets (codeIn w caps c))
+
+    alive : live (mapWith caps s) c ≡ true
+    unfolding live mapWith facetCount shape shapes noShape
+    alive =
+        ap not
+        (ne-eqb (s .at c .code) 0 (λ z.
+        let none : facetCount (codeIn w caps c) ≡ 0 = ap facetCount (code-read w caps s p c h ∙ z) in
+        omega (arith, none)))
+
+    facet-is : facetIn w caps rows c f ≡ getD (facetsAt (mapWith caps s) c) f []
+    facet-is = rw types (facet-read w caps s p c h f)
+
+    set-is : facetIn w caps rows c f ≡ marksOf (mapWith caps s) (halfOf c f)
+    unfolding halfOf
+    set-is = facet-is ∙ sym (half-facet (mapWith caps s) c f few .2)
+
+    shared-is : (n : ℕ) (o o′ : List ℕ) → Shared w caps rows (facetIn w caps rows c f) o n o′ → length o ≡ 128
+        → listOf n (λ i. getD o′ i 0) ≡ siblings (mapWith caps s) (halfOf c f)
+    unfolding siblings mapWith
+    shared-is n o o′ shared size =
+        copied-list (sharers (mapWith caps s) (facetIn w caps rows c f)) o o′ n
+        (shared .list s p r
+        (record {
+          types = types;
+          some = rw facet-is (facet-some (mapWith caps s) (r .sound) c f alive few);
+          mark = rw facet-is (facet-inside (mapWith caps s) (r .sound) c f alive few);
+        }))
+        (omega (arith, shared .few)) ∙ ap (sharers (mapWith caps s)) set-is
+
+    stored-is : getD w (cellAt (caps .marks) c + (5 + f)) 0 ≡ s .sib (halfOf c f)
+    unfolding address halfOf
+    stored-is = p .words (Cell c (5 + f)) (h, omega (arith, four)) ∙ sibling-slot caps s c f four
+
+    one : (n half next stored : ℕ) (o o′ : List ℕ) → Shared w caps rows (facetIn w caps rows c f) o n o′ → length o ≡ 128
+        → half ≡ halfOf (c % 65536) (f % 8) → next ≡ after half (listOf n (λ i. getD o′ i 0))
+        → stored ≡ getD w (cellAt (caps .marks) c + (5 + f)) 0 → eqb stored next ≡ sibRight caps s c f
+    unfolding sibRight sibling
+    one n half next stored o o′ shared size uncut found word =
+        let half-is : half ≡ halfOf c f = uncut ∙ half-uncut c f (omega (arith, p .cells)) (omega (arith, four)) in
+        let next-is : next ≡ after (halfOf c f) (siblings (mapWith caps s) (halfOf c f)) =
+        found ∙ (ap (λ (h : ℕ). after h (listOf n (λ i. getD o′ i 0))) half-is ∙ ap (after (halfOf c f)) (shared-is n o o′ shared size)) in
+        rw (word ∙ stored-is, next-is)
+
+  pub sibling-held : (n half next stored : ℕ) (o o′ : List ℕ) → Shared w caps rows (facetIn w caps rows c f) o n o′ → length o ≡ 128
+      → half ≡ halfOf (c % 65536) (f % 8) → next ≡ after half (listOf n (λ i. getD o′ i 0))
+      → stored ≡ getD w (cellAt (caps .marks) c + (5 + f)) 0
+      → Sees w caps (λ s. (Readied caps rows s × (c < caps .cells)) × (f < facetCount (codeIn w caps c))) (λ s. sibRight caps s c f) (eqb stored next)
+  sibling-held n half next stored o o′ shared size uncut found word = record { sees = at }
+    where
+      at : (s : State) → Pic w caps s → (Readied caps rows s × (c < caps .cells)) × (f < facetCount (codeIn w caps c)) → eqb stored next ≡ sibRight caps s c f
+      at s p k = one s p (k .0 .0 .ready) (k .0 .0 .types) (k .0 .1) (k .1) n half next stored o o′ shared size uncut found word
+
+-- the step that holds a stored first anchor against the first anchor
+module _ (w : List ℕ) (caps : Caps) (rows : List (List (List ℕ))) (v d : ℕ) (less : d < 3) where
+  pub anchor-held : (x y : ℕ) → x ≡ getD w (markAt v + (d + 2)) 0 → Reads w caps (Around caps rows v) (λ m. next (anchors m (d + 1) v)) y
+      → Sees w caps (λ s. (SettledBy caps rows s × (v < caps .marks)) × (d < 3)) (λ s. ancRight caps s v d) (eqb x y)
+  unfolding ancRight address
+  anchor-held x y e g = record { sees = at }
+    where
+      at : (s : State) → Pic w caps s → (SettledBy caps rows s × (v < caps .marks)) × (d < 3)
+          → eqb x y ≡ eqb (s .anc (d + 1) v) (next (anchors (mapWith caps s) (d + 1) v))
+      at s p k =
+          let place : markAt v + (d + 2) ≡ markAt v + (1 + (d + 1)) = omega arith in
+          let stored : x ≡ s .anc (d + 1) v =
+          e ∙ (ap (λ (i : ℕ). getD w i 0) place
+          ∙ (p .words (Mark v (1 + (d + 1))) (k .0 .1, omega (arith, k .1)) ∙ anchor-word caps s d v 0 v (d + 1) (omega arith) (omega (arith, k .1)))) in
+          rw (stored, g .reads s p (record { settled = k .0 .0 .settled; types = k .0 .0 .types; mark = k .0 .1 }))
+
+-- the step that holds a stored count against a count of the cells
+module _ (w : List ℕ) (caps : Caps) (t x y : ℕ) (e : x ≡ getD w (5 + t) 0) (q : y ≡ countIn w caps (t + 1)) where
+  pub count-yes : x ≡ y → countRight w caps t ≡ true
+  unfolding countRight
+  count-yes z = rw (← e, ← q) (eq-eqb x y z)
+
+  pub count-no : (x ≡ y → ⊥) → countRight w caps t ≡ false
+  unfolding countRight
+  count-no f = rw (← e, ← q) (ne-eqb x y f)
+
+-- a count of the cells of a type, cell by cell
+module _ (w : List ℕ) (caps : Caps) (t : ℕ) where
+  abbrev pub Counted : ℕ → ℕ → Type 0
+  Counted c n = n ≡ length (select (λ k. eqb (codeIn w caps k) t) c)
+
+  pub counted-start : Counted 0 0
+  unfolding select
+  counted-start = refl
+
+  pub counted-few : (c n : ℕ) → Counted c n → n ≤ c
+  counted-few c n e = omega (arith, e, select-size (λ k. eqb (codeIn w caps k) t) c)
+
+  pub counted-more : (c n n′ x : ℕ) → Counted c n → x ≡ getD w (cellAt (caps .marks) c + 0) 0 → x ≡ t → n′ ≡ n + 1 → Counted (c + 1) n′
+  unfolding select codeIn
+  counted-more c n n′ x e q z next =
+      let here : eqb (getD w (cellAt (caps .marks) c + 0) 0) t ≡ true = eq-eqb _ _ (sym q ∙ z) in
+      rw (add-one c, here, length-append) (omega (arith, e, next))
+
+  pub counted-same : (c n n′ x : ℕ) → Counted c n → x ≡ getD w (cellAt (caps .marks) c + 0) 0 → (x ≡ t → ⊥) → n′ ≡ n → Counted (c + 1) n′
+  unfolding select codeIn
+  counted-same c n n′ x e q f next =
+      let here : eqb (getD w (cellAt (caps .marks) c + 0) 0) t ≡ false = ne-eqb _ _ (λ z. f (q ∙ z)) in
+      rw (add-one c, here) (next ∙ e)
+
+  pub counted-end : (c n : ℕ) → Counted c n → c ≤ caps .cells → caps .cells ≤ c → n ≡ countIn w caps t
+  unfolding countIn
+  counted-end c n e a b = let z : c ≡ caps .cells = omega arith in rw z at e

@@ -1,0 +1,61 @@
+use borrow.Author.Needs.{needs}
+use Rattle.whole.proofs.Loops.{SeesTo, sees-start, sees-more, sees-stop, sees-end}
+use Rattle.whole.specs.Tests.{Sees, Readied, SettledBy, twinIn, loneOf, sibRight, sibsRight, ancRight, ancsRight, countIn, countRight}
+use borrow.Author.Tests.{not-true, not-false}
+use Prim.Native.Nat.{_<_, _-_, _≤_}
+use native.Mathlib.Omega.{arith}
+use mathlib.Core.Bool.{Bool, true, false, not}
+use mathlib.Core.Path.{_≡_, refl, sym, ap, _∙_}
+use Rattle.whole.proofs.all_anchors.Statement.{statement}
+use Rattle.whole.proofs.all_anchors.Tie as tie
+use Rattle.whole.proofs.all_anchors.Reads as reads
+use Rattle.whole.proofs.all_anchors.Lts as lts
+use Rattle.whole.proofs.anchors_ok.Reads as anchors-ok-reads
+
+abbrev Inv-loop : tie.InvT-loop
+Inv-loop w caps rows v₀ v = (v ≤ caps .marks) × SeesTo w caps (SettledBy caps rows) (λ s. ancsRight caps s) v
+
+abbrev μ-loop : tie.MeasureT-loop
+μ-loop w caps rows v₀ v = caps .marks - v
+
+-- src/lib.rt:168:5
+loop-holds : tie.Need-loop-holds Inv-loop μ-loop
+loop-holds c = (omega arith, sees-start _ _ _ _)
+
+-- src/lib.rt:169:13
+anchors-ok-requires : tie.Need-anchors-ok-requires Inv-loop μ-loop
+anchors-ok-requires c κs = search needs
+
+-- src/lib.rt:170:13
+returns : tie.Need-returns Inv-loop μ-loop
+returns c = sees-stop _ _ _ _ _ (c .before .before .before .before .loop .v) _ (omega arith) (c .before .anchors-ok .ensures) (not-true _ (c .if2 .taken))
+
+-- src/lib.rt:172:9
+add-v : tie.Need-add-v Inv-loop μ-loop
+add-v c = search needs
+
+-- src/lib.rt:168:5
+loop-less : tie.Need-loop-less Inv-loop μ-loop
+loop-less c = search needs
+
+-- src/lib.rt:168:5
+loop-again : tie.Need-loop-again Inv-loop μ-loop
+loop-again c = (omega arith, sees-more _ _ _ _ _ (c .before .before .before .before .loop .v) _ (omega arith) (c .before .anchors-ok .ensures) (c .before .before .before .before .loop .inv .1) (not-false _ (c .if2 .left)))
+
+-- src/lib.rt:164:1
+returns-2 : tie.Need-returns-2 Inv-loop μ-loop
+returns-2 c = sees-end _ _ _ _ _ (c .before .before .loop .v) (c .before .before .loop .inv .1) (omega arith) (omega arith)
+
+pub all-anchors-spec : {M : Type 1} → statement M
+all-anchors-spec =
+    tie.close
+    (tie.spec
+    Inv-loop
+    μ-loop
+    loop-holds
+    anchors-ok-requires
+    returns
+    add-v
+    loop-less
+    loop-again
+    returns-2)

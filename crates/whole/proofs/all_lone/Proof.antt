@@ -1,0 +1,63 @@
+use borrow.Author.Needs.{needs}
+use Rattle.picture.specs.State.{mapWith}
+use Rattle.laid.specs.Upright.{Upright}
+use Rattle.whole.proofs.Loops.{SeesTo, sees-start, sees-more, sees-stop, sees-end}
+use Rattle.whole.specs.Tests.{Sees, Readied, SettledBy, twinIn, loneOf, sibRight, sibsRight, ancRight, ancsRight, countIn, countRight}
+use borrow.Author.Tests.{not-true, not-false}
+use Prim.Native.Nat.{_<_, _-_, _≤_}
+use native.Mathlib.Omega.{arith}
+use mathlib.Core.Bool.{Bool, true, false, not}
+use mathlib.Core.Path.{_≡_, refl, sym, ap, _∙_}
+use Rattle.whole.proofs.all_lone.Statement.{statement}
+use Rattle.whole.proofs.all_lone.Tie as tie
+use Rattle.whole.proofs.all_lone.Reads as reads
+use Rattle.whole.proofs.all_lone.Lts as lts
+use Rattle.whole.proofs.lone.Reads as lone-reads
+
+abbrev Inv-loop : tie.InvT-loop
+Inv-loop w caps c₀ c = (c ≤ caps .cells) × SeesTo w caps (Upright caps) (λ s. loneOf (mapWith caps s)) c
+
+abbrev μ-loop : tie.MeasureT-loop
+μ-loop w caps c₀ c = caps .cells - c
+
+-- src/lib.rt:78:5
+loop-holds : tie.Need-loop-holds Inv-loop μ-loop
+loop-holds c = (omega arith, sees-start _ _ _ _)
+
+-- src/lib.rt:79:13
+lone-requires : tie.Need-lone-requires Inv-loop μ-loop
+lone-requires c κs = search needs
+
+-- src/lib.rt:80:13
+returns : tie.Need-returns Inv-loop μ-loop
+returns c = sees-stop _ _ _ _ _ (c .before .before .before .before .loop .c) _ (omega arith) (c .before .lone .ensures) (not-true _ (c .if2 .taken))
+
+-- src/lib.rt:82:9
+add-c : tie.Need-add-c Inv-loop μ-loop
+add-c c = search needs
+
+-- src/lib.rt:78:5
+loop-less : tie.Need-loop-less Inv-loop μ-loop
+loop-less c = search needs
+
+-- src/lib.rt:78:5
+loop-again : tie.Need-loop-again Inv-loop μ-loop
+loop-again c = (omega arith, sees-more _ _ _ _ _ (c .before .before .before .before .loop .c) _ (omega arith) (c .before .lone .ensures) (c .before .before .before .before .loop .inv .1) (not-false _ (c .if2 .left)))
+
+-- src/lib.rt:74:1
+returns-2 : tie.Need-returns-2 Inv-loop μ-loop
+returns-2 c = sees-end _ _ _ _ _ (c .before .before .loop .c) (c .before .before .loop .inv .1) (omega arith) (omega arith)
+
+pub all-lone-spec : {M : Type 1} → statement M
+all-lone-spec =
+    tie.close
+    (tie.spec
+    Inv-loop
+    μ-loop
+    loop-holds
+    lone-requires
+    returns
+    add-c
+    loop-less
+    loop-again
+    returns-2)

@@ -1,0 +1,61 @@
+use borrow.Author.Needs.{needs}
+use Rattle.whole.proofs.Loops.{SeesTo, sees-start, sees-more, sees-stop, sees-end}
+use Rattle.whole.specs.Tests.{Sees, Readied, SettledBy, twinIn, loneOf, sibRight, sibsRight, ancRight, ancsRight, countIn, countRight}
+use borrow.Author.Tests.{not-true, not-false}
+use Prim.Native.Nat.{_<_, _-_, _≤_}
+use native.Mathlib.Omega.{arith}
+use mathlib.Core.Bool.{Bool, true, false, not}
+use mathlib.Core.Path.{_≡_, refl, sym, ap, _∙_}
+use Rattle.whole.proofs.all_siblings.Statement.{statement}
+use Rattle.whole.proofs.all_siblings.Tie as tie
+use Rattle.whole.proofs.all_siblings.Reads as reads
+use Rattle.whole.proofs.all_siblings.Lts as lts
+use Rattle.whole.proofs.siblings_ok.Reads as siblings-ok-reads
+
+abbrev Inv-loop : tie.InvT-loop
+Inv-loop w caps rows c₀ c = (c ≤ caps .cells) × SeesTo w caps (Readied caps rows) (λ s. sibsRight w caps s) c
+
+abbrev μ-loop : tie.MeasureT-loop
+μ-loop w caps rows c₀ c = caps .cells - c
+
+-- src/lib.rt:140:5
+loop-holds : tie.Need-loop-holds Inv-loop μ-loop
+loop-holds c = (omega arith, sees-start _ _ _ _)
+
+-- src/lib.rt:141:13
+siblings-ok-requires : tie.Need-siblings-ok-requires Inv-loop μ-loop
+siblings-ok-requires c κs = search needs
+
+-- src/lib.rt:142:13
+returns : tie.Need-returns Inv-loop μ-loop
+returns c = sees-stop _ _ _ _ _ (c .before .before .before .before .loop .c) _ (omega arith) (c .before .siblings-ok .ensures) (not-true _ (c .if2 .taken))
+
+-- src/lib.rt:144:9
+add-c : tie.Need-add-c Inv-loop μ-loop
+add-c c = search needs
+
+-- src/lib.rt:140:5
+loop-less : tie.Need-loop-less Inv-loop μ-loop
+loop-less c = search needs
+
+-- src/lib.rt:140:5
+loop-again : tie.Need-loop-again Inv-loop μ-loop
+loop-again c = (omega arith, sees-more _ _ _ _ _ (c .before .before .before .before .loop .c) _ (omega arith) (c .before .siblings-ok .ensures) (c .before .before .before .before .loop .inv .1) (not-false _ (c .if2 .left)))
+
+-- src/lib.rt:136:1
+returns-2 : tie.Need-returns-2 Inv-loop μ-loop
+returns-2 c = sees-end _ _ _ _ _ (c .before .before .loop .c) (c .before .before .loop .inv .1) (omega arith) (omega arith)
+
+pub all-siblings-spec : {M : Type 1} → statement M
+all-siblings-spec =
+    tie.close
+    (tie.spec
+    Inv-loop
+    μ-loop
+    loop-holds
+    siblings-ok-requires
+    returns
+    add-c
+    loop-less
+    loop-again
+    returns-2)

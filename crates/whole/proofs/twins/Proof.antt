@@ -1,0 +1,73 @@
+use borrow.Author.Needs.{needs}
+use Rattle.lists.proofs.Through.{none-start, none-more, one-there, none-all}
+use Rattle.lists.specs.Lists.{any, listOf}
+use lib.ListN.{getD}
+use Rattle.whole.specs.Tests.{twinIn}
+use Prim.Native.Nat.{_-_, _≤_}
+use native.Mathlib.Omega.{arith}
+use mathlib.Core.Bool.{Bool, true, false, not}
+use mathlib.Core.Path.{_≡_, refl, sym, ap, _∙_}
+use Rattle.whole.proofs.twins.Statement.{statement}
+use Rattle.whole.proofs.twins.Tie as tie
+use Rattle.whole.proofs.twins.Reads as reads
+use Rattle.whole.proofs.twins.Lts as lts
+use Rattle.whole.proofs.twin.Reads as twin-reads
+use Rattle.words.proofs.word.Reads as word-reads
+
+abbrev Inv-loop : tie.InvT-loop
+Inv-loop w caps c cells n i₀ i = (i ≤ n) × (any (twinIn w caps c) (listOf i (λ j. getD cells j 0)) ≡ false)
+
+abbrev μ-loop : tie.MeasureT-loop
+μ-loop w caps c cells n i₀ i = n - i
+
+-- src/lib.rt:51:5
+loop-holds : tie.Need-loop-holds Inv-loop μ-loop
+loop-holds c = (omega arith, none-start _ _)
+
+-- src/lib.rt:52:41
+cast-word : tie.Need-cast-word Inv-loop μ-loop
+cast-word c = search needs
+
+-- src/lib.rt:52:29
+word-requires : tie.Need-word-requires Inv-loop μ-loop
+word-requires c κs = search needs
+
+-- src/lib.rt:52:12
+twin-requires : tie.Need-twin-requires Inv-loop μ-loop
+twin-requires c κs = search needs
+
+-- src/lib.rt:53:13
+returns : tie.Need-returns Inv-loop μ-loop
+returns c = sym (one-there _ _ _ (c .before .before .before .before .loop .i) (omega arith) (ap (twinIn _ _ _) (sym (c .before .before .word .ensures)) ∙ (sym (c .before .twin .ensures) ∙ c .if1 .taken)))
+
+-- src/lib.rt:55:9
+add-i : tie.Need-add-i Inv-loop μ-loop
+add-i c = search needs
+
+-- src/lib.rt:51:5
+loop-less : tie.Need-loop-less Inv-loop μ-loop
+loop-less c = search needs
+
+-- src/lib.rt:51:5
+loop-again : tie.Need-loop-again Inv-loop μ-loop
+loop-again c = (omega arith, none-more _ _ (c .before .before .before .before .loop .i) (c .before .before .before .before .loop .inv .1) (ap (twinIn _ _ _) (sym (c .before .before .word .ensures)) ∙ (sym (c .before .twin .ensures) ∙ c .if1 .left)))
+
+-- src/lib.rt:47:1
+returns-2 : tie.Need-returns-2 Inv-loop μ-loop
+returns-2 c = none-all _ _ (c .before .loop .i) _ (c .before .loop .inv .1) (c .before .loop .inv .0) (omega arith)
+
+pub twins-spec : {M : Type 1} → statement M
+twins-spec =
+    tie.close
+    (tie.spec
+    Inv-loop
+    μ-loop
+    loop-holds
+    cast-word
+    word-requires
+    twin-requires
+    returns
+    add-i
+    loop-less
+    loop-again
+    returns-2)
