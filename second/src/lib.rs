@@ -8,11 +8,13 @@
 //! - [`map`]: the definitions over the list of live cells.
 //! - [`refusal`]: the refusal numbers.
 //! - [`calls`]: every call, its checks in the listed order, then the answer.
+//! - [`cases`]: the outline's cases, with every answer, as text.
 //! - [`frames`]: the frame program, from input bytes to output bytes.
 
 #![forbid(unsafe_code)]
 
 pub mod calls;
+pub mod cases;
 pub mod frames;
 pub mod map;
 pub mod refusal;

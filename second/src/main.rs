@@ -1,12 +1,14 @@
 //! Without an argument: frames on standard input, answers on standard output.
-//! With the argument `shapes`: the facet numbering.
+//! With the argument `shapes`: the facet numbering. With `cases`: the outline's
+//! cases, and everything that can be asked of them.
 
+use second::cases;
 use second::frames::Program;
 use second::shapes::numbering;
 use std::io::{self, ErrorKind, Read, Write};
 use std::process::ExitCode;
 
-const USAGE: &str = "usage: second [shapes]";
+const USAGE: &str = "usage: second [shapes | cases]";
 const USAGE_STATUS: u8 = 2;
 const PART_OF_INPUT: usize = 4096;
 
@@ -15,6 +17,7 @@ fn main() -> ExitCode {
     let done = match arguments.as_slice() {
         [] => answer_frames(),
         [word] if word == "shapes" => io::stdout().write_all(numbering().as_bytes()),
+        [word] if word == "cases" => io::stdout().write_all(cases::text().as_bytes()),
         _ => {
             eprintln!("{USAGE}");
             return ExitCode::from(USAGE_STATUS);

@@ -83,9 +83,55 @@ fn with_shapes_it_prints_the_facet_numbering() {
     assert_eq!(output.status.code(), Some(0));
 }
 
+/// The answers that the outline's twelve cases name, P1's by their count.
+#[test]
+fn with_cases_it_prints_the_cases() {
+    let output = run(&["cases"], b"");
+    let text = String::from_utf8(output.stdout).expect("text");
+    for due in [
+        "P2 mark 2 dimension 2: star 0, anchors 1, first 1",
+        "P3 half 0 1: sibling 8, border no, cycle 1 8, step 8",
+        "P3 half 1 0: sibling 1, border no, cycle 8 1, step 1",
+        "P4 half 0 0: sibling 8, border no, cycle 0 8 16, step 8",
+        "P4 half 1 0: sibling 16, border no, cycle 8 16 0, step 16",
+        "P4 half 2 0: sibling 0, border no, cycle 16 0 8, step 0",
+        "P5 mark 0 dimension 2: star 0 1, anchors 0 8, first 0",
+        "P6 half 0 0: sibling 8, border no, cycle 0 8, step 8",
+        "P6 mark 0 dimension 3: star 0 1, anchors 1, first 1",
+        "P7 mark 3 dimension 2: star 1 2 3, anchors 9, first 9",
+        "P8 half 0 1: sibling 8, border no, cycle 1 8, step 8",
+        "P8 mark 1 dimension 1: star 0 1, anchors 1, first 1",
+        "P9 half 0 0: sibling 16, border no, cycle 0 16, step 16",
+        "P9 half 1 0: sibling refused 5, border refused 5, cycle refused 5, step refused 5",
+        "P10 insert 1 type 2 marks 2 0 1: refused 10",
+        "P11 insert 0 type 2 marks 0 1 1: refused 9",
+        "P12 cell 0: type 2, marks 0 1 2, neighbours none",
+        "bound insert 127: accepted",
+        "bound insert 128: refused 11",
+    ] {
+        assert_eq!(text.lines().filter(|line| *line == due).count(), 1, "{due}");
+    }
+    let with = |start: &str, end: &str| {
+        let is_one = |line: &&str| line.starts_with(start) && line.contains(end);
+        text.lines().filter(is_one).count()
+    };
+    assert_eq!(with("P1 mark", "star none, anchors none, first none"), 15);
+    assert_eq!(with("P2 half 0", "border yes"), 3);
+    assert_eq!(with("P7 half", "border yes"), 0);
+    assert_eq!(with("P12 half", "border yes"), 7);
+    assert_eq!(output.status.code(), Some(0));
+}
+
 #[test]
 fn any_other_argument_gives_the_usage() {
-    for arguments in [&["shape"][..], &["Shapes"], &[""], &["shapes", "shapes"]] {
+    for arguments in [
+        &["shape"][..],
+        &["Shapes"],
+        &[""],
+        &["shapes", "shapes"],
+        &["case"],
+        &["cases", "shapes"],
+    ] {
         let output = run(arguments, b"f000060004\n");
         assert_eq!(output.status.code(), Some(2), "{arguments:?}");
         assert_eq!(output.stdout, b"");

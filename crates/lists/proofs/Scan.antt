@@ -2,27 +2,27 @@
 use mathlib.Core.Path.{_≡_, refl, sym, ap, _∙_}
 use mathlib.Core.Bool.{Bool, true, false, _&&_, _||_}
 use mathlib.Core.List.{List, [], _∷_}
-use Prim.Native.Nat.{ℕ, suc, _+_, _-_, _<_, _≤_}
+use Prim.Native.Nat.{ℕ, suc, _+_, _<_, _≤_}
 use native.Mathlib.Omega.{arith}
 use native.Mathlib.Numerals.{add-one}
 use borrow.Author.Tests.{eq-eqb, ne-eqb}
-use lib.ListN.{length, getD, take, drop, length-drop, drop-of-length-le}
-use lib.Seq.{drop-cons, take-all}
+use lib.ListN.{length, getD, drop, drop-of-length-le}
+use lib.Seq.{drop-cons}
 use Rattle.lists.specs.Lists.{any, all, has, repeats}
 
 rest : (l : List ℕ) (i : ℕ) → i < length l → drop i l ≡ getD l i 0 ∷ drop (i + 1) l
 rest l i h = rw (add-one i) (drop-cons l i 0 h)
 
-module _ (v : ℕ) (l : List ℕ) (i : ℕ) (same : has v l ≡ has v (drop i l)) where
-  pub has-stop : getD l i 0 ≡ v → i < length l → true ≡ has v l
+module _ (v : ℕ) (l : List ℕ) (b : Bool) (i : ℕ) (same : b ≡ has v (drop i l)) where
+  pub has-stop : getD l i 0 ≡ v → i < length l → true ≡ b
   unfolding has
   has-stop e h = sym (same ∙ (ap (has v) (rest l i h) ∙ rw (eq-eqb (getD l i 0) v e)))
 
-  pub has-go : (getD l i 0 ≡ v → ⊥) → i < length l → has v l ≡ has v (drop (i + 1) l)
+  pub has-go : (getD l i 0 ≡ v → ⊥) → i < length l → b ≡ has v (drop (i + 1) l)
   unfolding has
   has-go f h = same ∙ (ap (has v) (rest l i h) ∙ rw (ne-eqb (getD l i 0) v f))
 
-  pub has-end : length l ≤ i → false ≡ has v l
+  pub has-end : length l ≤ i → false ≡ b
   unfolding has
   has-end h = sym (same ∙ ap (has v) (drop-of-length-le l {i = i} h))
 
@@ -39,18 +39,14 @@ module _ (p : ℕ → Bool) (l : List ℕ) (i : ℕ) (same : all p l ≡ all p (
   unfolding all
   all-end h = sym (same ∙ ap (all p) (drop-of-length-le l {i = i} h))
 
--- the rest, as the code cuts it
-rest-part : (l : List ℕ) (k : ℕ) → take (length l - k) (drop k l) ≡ drop k l
-rest-part l k = take-all (length l - k) (drop k l) (omega (arith, length-drop k l))
-
 module _ (l : List ℕ) (i : ℕ) (same : repeats l ≡ repeats (drop i l)) where
-  pub repeats-stop : has (getD l i 0) (take (length l - (i + 1)) (drop (i + 1) l)) ≡ true → i < length l → true ≡ repeats l
+  pub repeats-stop : has (getD l i 0) (drop (i + 1) l) ≡ true → i < length l → true ≡ repeats l
   unfolding repeats
-  repeats-stop e h = sym (same ∙ (ap repeats (rest l i h) ∙ rw (rw rest-part at e)))
+  repeats-stop e h = sym (same ∙ (ap repeats (rest l i h) ∙ rw e))
 
-  pub repeats-go : has (getD l i 0) (take (length l - (i + 1)) (drop (i + 1) l)) ≡ false → i < length l → repeats l ≡ repeats (drop (i + 1) l)
+  pub repeats-go : has (getD l i 0) (drop (i + 1) l) ≡ false → i < length l → repeats l ≡ repeats (drop (i + 1) l)
   unfolding repeats
-  repeats-go e h = same ∙ (ap repeats (rest l i h) ∙ rw (rw rest-part at e))
+  repeats-go e h = same ∙ (ap repeats (rest l i h) ∙ rw e)
 
   pub repeats-end : length l ≤ i → false ≡ repeats l
   unfolding repeats

@@ -6,12 +6,13 @@
 ghost use mathlib.Core.Path.{_≡_};
 ghost use Rattle.lists.specs.Lists.{has, any, all, sameSet, repeats};
 ghost use lib.Dec.{leb};
+ghost use lib.ListN.{drop};
 
-// v is in the list.
-pub fn has(l: &[u32], v: u32) -> bool
-    ensures { λ r. ⌜ r ≡ has v (now (l .entry)) ⌝ }
+// v is in the list from a place on.
+fn has_from(l: &[u32], at: usize, v: u32) -> bool
+    ensures { λ r. ⌜ r ≡ has v (drop at (now (l .entry))) ⌝ }
 {
-    let mut i = 0;
+    let mut i = at;
     while i < l.len() {
         if l[i] == v {
             return true;
@@ -21,13 +22,20 @@ pub fn has(l: &[u32], v: u32) -> bool
     false
 }
 
+// v is in the list.
+pub fn has(l: &[u32], v: u32) -> bool
+    ensures { λ r. ⌜ r ≡ has v (now (l .entry)) ⌝ }
+{
+    has_from(l, 0, v)
+}
+
 // All of a are in b.
 pub fn subset(a: &[u32], b: &[u32]) -> bool
     ensures { λ r. ⌜ r ≡ all (λ x. has x (now (b .entry))) (now (a .entry)) ⌝ }
 {
     let mut i = 0;
     while i < a.len() {
-        if !has(b, a[i]) {
+        if !has_from(b, 0, a[i]) {
             return false;
         }
         i += 1;
@@ -52,7 +60,7 @@ pub fn repeats(l: &[u32]) -> bool
     let mut i = 0;
     while i < l.len() {
         let next = i + 1;
-        if has(&l[next..], l[i]) {
+        if has_from(l, next, l[i]) {
             return true;
         }
         i = next;

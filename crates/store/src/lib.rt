@@ -62,7 +62,7 @@ pub fn cell_word(w: &[u32], caps: Caps, c: u32, k: u32) -> u32
 {
     word(
         w,
-        16 + 8 * (caps.marks as usize) + 16 * (c as usize) + (k as usize),
+        16 + 8 * (caps.marks as usize) + 16 * (c as usize) + k as usize,
     )
 }
 

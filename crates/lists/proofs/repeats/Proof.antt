@@ -21,35 +21,23 @@ loop-holds c = (search needs, refl)
 add-next : tie.Need-add-next Inv-loop μ-loop
 add-next c = search needs
 
-mul-has : tie.Need-mul-has Inv-loop μ-loop
-mul-has c = search needs
+mul-has-from : tie.Need-mul-has-from Inv-loop μ-loop
+mul-has-from c = search needs
 
-sub-has : tie.Need-sub-has Inv-loop μ-loop
-sub-has c = search needs
+shared-slice-read-has-from : tie.Need-shared-slice-read-has-from Inv-loop μ-loop
+shared-slice-read-has-from c = search needs
 
-part-has-start : tie.Need-part-has-start Inv-loop μ-loop
-part-has-start c = search needs
-
-part-has-end : tie.Need-part-has-end Inv-loop μ-loop
-part-has-end c = search needs
-
-mul-has-2 : tie.Need-mul-has-2 Inv-loop μ-loop
-mul-has-2 c = search needs
-
-shared-slice-read-has : tie.Need-shared-slice-read-has Inv-loop μ-loop
-shared-slice-read-has c = search needs
-
-has-requires : tie.Need-has-requires Inv-loop μ-loop
-has-requires c κs = search needs
+has-from-requires : tie.Need-has-from-requires Inv-loop μ-loop
+has-from-requires c κs = search needs
 
 returns : tie.Need-returns Inv-loop μ-loop
-returns c = repeats-stop _ (c .before .before .before .before .before .loop .i) (c .before .before .before .before .before .loop .inv .1) (sym (c .before .has .ensures) ∙ c .if1 .taken) (omega arith)
+returns c = repeats-stop _ (c .before .before .before .before .loop .i) (c .before .before .before .before .loop .inv .1) (sym (c .before .has-from .ensures) ∙ c .if1 .taken) (omega arith)
 
 loop-less : tie.Need-loop-less Inv-loop μ-loop
 loop-less c = search needs
 
 loop-again : tie.Need-loop-again Inv-loop μ-loop
-loop-again c = (omega arith, repeats-go _ (c .before .before .before .before .before .loop .i) (c .before .before .before .before .before .loop .inv .1) (sym (c .before .has .ensures) ∙ c .if1 .left) (omega arith))
+loop-again c = (omega arith, repeats-go _ (c .before .before .before .before .loop .i) (c .before .before .before .before .loop .inv .1) (sym (c .before .has-from .ensures) ∙ c .if1 .left) (omega arith))
 
 returns-2 : tie.Need-returns-2 Inv-loop μ-loop
 returns-2 c = repeats-end _ (c .before .loop .i) (c .before .loop .inv .1) (omega arith)
@@ -62,13 +50,9 @@ repeats-spec =
     μ-loop
     loop-holds
     add-next
-    mul-has
-    sub-has
-    part-has-start
-    part-has-end
-    mul-has-2
-    shared-slice-read-has
-    has-requires
+    mul-has-from
+    shared-slice-read-has-from
+    has-from-requires
     returns
     loop-less
     loop-again

@@ -1,22 +1,22 @@
--- `lists::has` meets its contract.
+-- `lists::has_from` meets its contract.
 use native.Mathlib.Omega.{arith}
 use mathlib.Core.Path.{_≡_, refl, sym, _∙_}
-use Prim.Native.Nat.{_-_, _≤_}
+use Prim.Native.Nat.{_-_}
 use lib.ListN.{length, drop}
 use Rattle.lists.specs.Lists.{has}
 use Rattle.lists.proofs.Scan.{has-stop, has-go, has-end}
 use borrow.Author.Needs.{needs}
-use Rattle.lists.proofs.has.Statement.{statement}
-use Rattle.lists.proofs.has.Tie as tie
+use Rattle.lists.proofs.has_from.Statement.{statement}
+use Rattle.lists.proofs.has_from.Tie as tie
 
 abbrev Inv-loop : tie.InvT-loop
-Inv-loop l v i₀ i = (i ≤ length l) × (has v l ≡ has v (drop i l))
+Inv-loop l at v i₀ i = has v (drop at l) ≡ has v (drop i l)
 
 abbrev μ-loop : tie.MeasureT-loop
-μ-loop l v i₀ i = length l - i
+μ-loop l at v i₀ i = length l - i
 
 loop-holds : tie.Need-loop-holds Inv-loop μ-loop
-loop-holds c = (search needs, refl)
+loop-holds c = refl
 
 mul-if1 : tie.Need-mul-if1 Inv-loop μ-loop
 mul-if1 c = search needs
@@ -25,7 +25,7 @@ shared-slice-read-if1 : tie.Need-shared-slice-read-if1 Inv-loop μ-loop
 shared-slice-read-if1 c = search needs
 
 returns : tie.Need-returns Inv-loop μ-loop
-returns c = has-stop _ _ (c .before .before .before .loop .i) (c .before .before .before .loop .inv .1) (c .if1 .taken) (omega arith)
+returns c = has-stop _ _ _ (c .before .before .before .loop .i) (c .before .before .before .loop .inv) (c .if1 .taken) (omega arith)
 
 add-i : tie.Need-add-i Inv-loop μ-loop
 add-i c = search needs
@@ -34,13 +34,13 @@ loop-less : tie.Need-loop-less Inv-loop μ-loop
 loop-less c = search needs
 
 loop-again : tie.Need-loop-again Inv-loop μ-loop
-loop-again c = (omega arith, has-go _ _ (c .before .before .before .loop .i) (c .before .before .before .loop .inv .1) (c .if1 .left) (omega arith))
+loop-again c = has-go _ _ _ (c .before .before .before .loop .i) (c .before .before .before .loop .inv) (c .if1 .left) (omega arith)
 
 returns-2 : tie.Need-returns-2 Inv-loop μ-loop
-returns-2 c = has-end _ _ (c .before .loop .i) (c .before .loop .inv .1) (omega arith)
+returns-2 c = has-end _ _ _ (c .before .loop .i) (c .before .loop .inv) (omega arith)
 
-pub has-spec : {M : Type 1} → statement M
-has-spec =
+pub has-from-spec : {M : Type 1} → statement M
+has-from-spec =
     tie.close
     (tie.spec
     Inv-loop

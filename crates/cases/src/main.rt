@@ -1,0 +1,575 @@
+// The outline's twelve cases, and the runs that it asks for besides, made and asked by the proved calls.
+//
+// What is here: a table of cases (what each is built from), a table of edits tried after the build, and for each kind of answer a function
+// that prints it. What is proved: the program is safe and ends. What it prints is held to `stdout`, which the second program writes.
+use ask::border;
+use ask::count_of_type;
+use ask::first_anchor;
+use ask::marks_of;
+use ask::sibling;
+use ask::step;
+use ask::type_of;
+use build::build;
+use format::format;
+use libc::STDOUT_FILENO;
+use listing::anchors;
+use listing::cells_of_type;
+use listing::cycle;
+use listing::lookup;
+use listing::neighbours;
+use listing::star;
+use map::Built;
+use map::Found;
+use map::HalfAt;
+use map::Refusal;
+use map::Step;
+use map::Truth;
+use map::Value;
+use map::Verdict;
+use map::Walker;
+use map::number_of;
+use mesh::insert;
+use mesh::remove;
+use numbers::Cell;
+use numbers::Mark;
+use numbers::half_of;
+use words::part;
+use words::word;
+
+// The capacities of every case.
+const MARKS: u32 = 5;
+
+const CELLS: u32 = 4;
+
+// How many cases there are. P1 to P12 are the outline's. R13 on are runs besides: a cell that comes back; quads with a triangle and a
+// bar; a mesh emptied again; a record cut short; edits that are all refused.
+const CASES: usize = 17;
+
+// How many words the records of each case have, and the records, padded with 0.
+const SIZES: [u32; CASES] = [0, 5, 10, 15, 10, 12, 20, 8, 15, 5, 0, 11, 15, 17, 20, 10, 5];
+
+const BUILT: [[u32; 20]; CASES] = [
+    [0, 0, 0, 0, 0, 0, 0, 0, 0, 0, 0, 0, 0, 0, 0, 0, 0, 0, 0, 0],
+    [0, 2, 0, 1, 2, 0, 0, 0, 0, 0, 0, 0, 0, 0, 0, 0, 0, 0, 0, 0],
+    [0, 2, 0, 1, 2, 1, 2, 2, 1, 3, 0, 0, 0, 0, 0, 0, 0, 0, 0, 0],
+    [0, 2, 0, 1, 2, 1, 2, 0, 1, 3, 2, 2, 0, 1, 4, 0, 0, 0, 0, 0],
+    [0, 2, 0, 1, 2, 1, 2, 0, 3, 4, 0, 0, 0, 0, 0, 0, 0, 0, 0, 0],
+    [0, 4, 0, 1, 2, 3, 1, 4, 0, 2, 1, 4, 0, 0, 0, 0, 0, 0, 0, 0],
+    [0, 2, 0, 2, 1, 1, 2, 0, 1, 3, 2, 2, 1, 2, 3, 3, 2, 2, 0, 3],
+    [0, 1, 0, 1, 1, 1, 1, 2, 0, 0, 0, 0, 0, 0, 0, 0, 0, 0, 0, 0],
+    [0, 2, 0, 1, 2, 1, 2, 0, 1, 3, 2, 2, 0, 1, 4, 0, 0, 0, 0, 0],
+    [0, 2, 0, 1, 2, 0, 0, 0, 0, 0, 0, 0, 0, 0, 0, 0, 0, 0, 0, 0],
+    [0, 0, 0, 0, 0, 0, 0, 0, 0, 0, 0, 0, 0, 0, 0, 0, 0, 0, 0, 0],
+    [0, 2, 0, 1, 2, 1, 4, 0, 1, 2, 3, 0, 0, 0, 0, 0, 0, 0, 0, 0],
+    [0, 2, 0, 1, 2, 1, 2, 0, 1, 3, 2, 2, 0, 1, 4, 0, 0, 0, 0, 0],
+    [0, 3, 0, 1, 2, 3, 1, 3, 1, 0, 3, 4, 2, 2, 0, 1, 4, 0, 0, 0],
+    [0, 2, 0, 2, 1, 1, 2, 0, 1, 3, 2, 2, 1, 2, 3, 3, 2, 2, 0, 3],
+    [0, 2, 0, 1, 2, 1, 4, 0, 1, 2, 0, 0, 0, 0, 0, 0, 0, 0, 0, 0],
+    [0, 2, 0, 1, 2, 0, 0, 0, 0, 0, 0, 0, 0, 0, 0, 0, 0, 0, 0, 0],
+];
+
+// The edits after the builds, in order: case, 1 for an insert and 0 for a removal, cell, type, how many marks, the marks.
+const EDITS: usize = 19;
+
+const EDITED: [[u32; 8]; EDITS] = [
+    [9, 0, 1, 0, 0, 0, 0, 0],
+    [10, 1, 1, 2, 3, 2, 0, 1],
+    [11, 1, 0, 2, 3, 0, 1, 1],
+    [13, 0, 1, 0, 0, 0, 0, 0],
+    [13, 1, 1, 2, 3, 0, 1, 3],
+    [14, 1, 3, 1, 2, 0, 1, 0],
+    [15, 0, 0, 0, 0, 0, 0, 0],
+    [15, 0, 3, 0, 0, 0, 0, 0],
+    [15, 0, 1, 0, 0, 0, 0, 0],
+    [15, 0, 2, 0, 0, 0, 0, 0],
+    [17, 1, 4, 2, 3, 0, 1, 3],
+    [17, 1, 0, 2, 3, 0, 1, 3],
+    [17, 1, 1, 5, 3, 0, 1, 3],
+    [17, 1, 1, 2, 2, 0, 1, 0],
+    [17, 1, 1, 2, 3, 0, 1, 5],
+    [17, 1, 1, 2, 3, 3, 4, 3],
+    [17, 1, 1, 2, 3, 1, 2, 0],
+    [17, 0, 4, 0, 0, 0, 0, 0],
+    [17, 0, 1, 0, 0, 0, 0, 0],
+];
+
+fn size(p: u32) -> u32 {
+    let at = p as usize;
+    if at < 1 {
+        return 0;
+    }
+    if CASES < at {
+        return 0;
+    }
+    SIZES[at - 1]
+}
+
+fn records(p: u32) -> [u32; 20] {
+    let at = p as usize;
+    if at < 1 {
+        return [0; 20];
+    }
+    if CASES < at {
+        return [0; 20];
+    }
+    BUILT[at - 1]
+}
+
+fn edit_row(k: usize) -> [u32; 8] {
+    if k < EDITS { EDITED[k] } else { [0; 8] }
+}
+
+fn say(text: &[u8]) {
+    io::write_all(STDOUT_FILENO, text);
+}
+
+fn say_number(n: u32) {
+    say(b" ");
+    io::print_decimal(STDOUT_FILENO, n as u64);
+}
+
+fn say_size(n: usize) {
+    say(b" ");
+    io::print_decimal(STDOUT_FILENO, n as u64);
+}
+
+fn say_case(p: u32) {
+    if p <= 12 {
+        say(b"P");
+    } else {
+        say(b"R");
+    }
+    io::print_decimal(STDOUT_FILENO, p as u64);
+}
+
+fn say_refusal(why: Refusal) {
+    say(b" refused");
+    say_number(number_of(why));
+}
+
+// The first n numbers of a list.
+fn say_numbers(list: &[u32], n: usize) {
+    if n == 0 {
+        say(b" none");
+    }
+    for i in 0..n {
+        say_number(word(list, i));
+    }
+}
+
+fn say_verdict(v: Verdict) {
+    match v {
+        Verdict::Accepted => say(b" accepted"),
+        Verdict::Refused(why) => say_refusal(why),
+    }
+}
+
+fn say_built(b: Built) {
+    match b {
+        Built::Accepted => say(b" accepted"),
+        Built::Refused(why, place) => {
+            say_refusal(why);
+            say(b" record");
+            say_number(place);
+        }
+    }
+}
+
+fn say_value(v: Value) {
+    match v {
+        Value::Is(n) => say_number(n),
+        Value::Refused(why) => say_refusal(why),
+    }
+}
+
+fn say_list(v: Value, list: &[u32]) {
+    match v {
+        Value::Is(n) => say_numbers(list, n as usize),
+        Value::Refused(why) => say_refusal(why),
+    }
+}
+
+fn say_half(h: HalfAt) {
+    match h {
+        HalfAt::At(x) => say_number(x.0),
+        HalfAt::Refused(why) => say_refusal(why),
+    }
+}
+
+fn say_found(f: Found) {
+    if let Found::Refused(why) = f {
+        say_refusal(why);
+        return;
+    }
+    let Found::At(h) = f else {
+        say(b" none");
+        return;
+    };
+    say_number(h.0);
+}
+
+fn say_truth(t: Truth) {
+    match t {
+        Truth::Yes => say(b" yes"),
+        Truth::No => say(b" no"),
+        Truth::Refused(why) => say_refusal(why),
+    }
+}
+
+fn say_step(s: Step) {
+    match s {
+        Step::Next(at) => {
+            let h = at.0;
+            say_number(h.0);
+        }
+        Step::Refused(why) => say_refusal(why),
+    }
+}
+
+fn about_cell(w: &[u32], p: u32, c: u32) {
+    say_case(p);
+    say(b" cell");
+    say_number(c);
+    say(b": type");
+    say_value(type_of(w, Cell(c)));
+    say(b", marks");
+    let marks = marks_of(w, Cell(c));
+    say_numbers(marks, marks.len());
+    say(b", neighbours");
+    let mut out = [0u32; 128];
+    let n = neighbours(w, Cell(c), &mut out);
+    say_list(n, &out);
+    say(b"\n");
+}
+
+fn about_half(w: &[u32], p: u32, c: u32, f: u32) {
+    say_case(p);
+    say(b" half");
+    say_number(c);
+    say_number(f);
+    say(b": sibling");
+    say_half(sibling(w, Cell(c), f));
+    say(b", border");
+    say_truth(border(w, Cell(c), f));
+    say(b", cycle");
+    let mut out = [0u32; 128];
+    let n = cycle(w, Cell(c), f, &mut out);
+    say_list(n, &out);
+    say(b", step");
+    say_step(step(Walker(half_of(Cell(c), f)), w));
+    say(b"\n");
+}
+
+fn about_halves(w: &[u32], p: u32, c: u32) {
+    for f in 0..5 {
+        about_half(w, p, c, f);
+    }
+}
+
+fn about_mark(w: &[u32], p: u32, d: u32, v: u32) {
+    say_case(p);
+    say(b" mark");
+    say_number(v);
+    say(b" dimension");
+    say_number(d);
+    say(b": star");
+    let mut cells = [0u32; 128];
+    let n = star(w, d, Mark(v), &mut cells);
+    say_list(n, &cells);
+    say(b", anchors");
+    let mut halves = [0u32; 128];
+    let k = anchors(w, d, Mark(v), &mut halves);
+    say_list(k, &halves);
+    say(b", first");
+    say_found(first_anchor(w, d, Mark(v)));
+    say(b"\n");
+}
+
+fn about_marks(w: &[u32], p: u32, d: u32) {
+    for v in 0..6 {
+        about_mark(w, p, d, v);
+    }
+}
+
+fn about_type(w: &[u32], p: u32, t: u32) {
+    say_case(p);
+    say(b" type");
+    say_number(t);
+    say(b": cells");
+    let mut out = [0u32; 128];
+    let n = cells_of_type(w, t, &mut out);
+    say_list(n, &out);
+    say(b", count");
+    say_value(count_of_type(w, t));
+    say(b"\n");
+}
+
+fn about_set(w: &[u32], p: u32, set: &[u32]) {
+    say_case(p);
+    say(b" lookup");
+    say_numbers(set, set.len());
+    say(b":");
+    say_found(lookup(w, set));
+    say(b"\n");
+}
+
+// The sets of marks that start with a and b.
+fn about_triples(w: &[u32], p: u32, a: u32, b: u32) {
+    about_set(w, p, &[a, b]);
+    for c in 0..6 {
+        if b < c {
+            about_set(w, p, &[a, b, c]);
+        }
+    }
+}
+
+// The sets of marks that start with a.
+fn about_pairs(w: &[u32], p: u32, a: u32) {
+    about_set(w, p, &[a]);
+    for b in 0..6 {
+        if a < b {
+            about_triples(w, p, a, b);
+        }
+    }
+}
+
+fn about_cells(w: &[u32], p: u32) {
+    for c in 0..5 {
+        about_cell(w, p, c);
+        about_halves(w, p, c);
+    }
+}
+
+fn about_dimensions(w: &[u32], p: u32) {
+    for d in 0..5 {
+        about_marks(w, p, d);
+    }
+}
+
+fn about_types(w: &[u32], p: u32) {
+    for t in 0..6 {
+        about_type(w, p, t);
+    }
+}
+
+fn about_sets(w: &[u32], p: u32) {
+    for a in 0..6 {
+        about_pairs(w, p, a);
+    }
+}
+
+// Every query with every argument, each also one past its range.
+fn everything(w: &[u32], p: u32) {
+    about_cells(w, p);
+    about_dimensions(w, p);
+    about_types(w, p);
+    about_sets(w, p);
+    about_set(w, p, &[]);
+    about_set(w, p, &[1, 0, 1]);
+    about_set(w, p, &[0, 1, 2, 3]);
+}
+
+fn try_remove(w: &mut [u32], c: u32) {
+    say(b" remove");
+    say_number(c);
+    say(b":");
+    say_verdict(remove(w, Cell(c)));
+    say(b"\n");
+}
+
+fn try_insert(w: &mut [u32], c: u32, t: u32, marks: &[u32]) {
+    say(b" insert");
+    say_number(c);
+    say(b" type");
+    say_number(t);
+    say(b" marks");
+    say_numbers(marks, marks.len());
+    say(b":");
+    say_verdict(insert(w, Cell(c), t, marks));
+    say(b"\n");
+}
+
+// One row of the edits, where it is of this case.
+fn try_edit(w: &mut [u32], p: u32, k: usize) {
+    let row = edit_row(k);
+    if row[0] != p {
+        return;
+    }
+    say_case(p);
+    if row[1] == 0 {
+        try_remove(w, row[2]);
+    } else {
+        let n = row[4];
+        try_insert(w, row[2], row[3], part(&row, 5, n as usize));
+    }
+}
+
+fn try_edits(w: &mut [u32], p: u32) {
+    for k in 0..EDITS {
+        try_edit(w, p, k);
+    }
+}
+
+fn run_case(w: &mut [u32], p: u32) {
+    let row = records(p);
+    let n = size(p);
+    say_case(p);
+    say(b" build:");
+    say_built(build(w, MARKS, CELLS, part(&row, 0, n as usize)));
+    say(b"\n");
+    try_edits(w, p);
+    everything(w, p);
+}
+
+fn one_case(p: u32) {
+    let mut w = [0u32; 184];
+    run_case(&mut w, p);
+}
+
+// Memory that is no mesh.
+fn no_mesh() {
+    let w = [0u32; 184];
+    everything(&w, 18);
+}
+
+fn try_format(w: &mut [u32], marks: u32, cells: u32) {
+    say(b"bound format");
+    say_size(w.len());
+    say(b" words");
+    say_number(marks);
+    say_number(cells);
+    say(b":");
+    say_verdict(format(w, marks, cells));
+    say(b"\n");
+}
+
+// The room exact, and one word short.
+fn try_room(w: &mut [u32], marks: u32, cells: u32) {
+    try_format(w, marks, cells);
+    let n = w.len();
+    if 0 < n {
+        try_format(&mut w[1..], marks, cells);
+    }
+}
+
+fn most_marks() {
+    let mut w = [0u32; 524296];
+    try_room(&mut w, 65535, 0);
+}
+
+fn above_most(w: &mut [u32]) {
+    try_format(w, 65536, 0);
+    try_format(w, 0, 65536);
+    try_format(w, 65535, 65535);
+    try_room(w, MARKS, CELLS);
+}
+
+fn formats() {
+    most_marks();
+    let mut w = [0u32; 184];
+    above_most(&mut w);
+    let mut head = [0u32; 16];
+    try_room(&mut head, 0, 0);
+}
+
+// A bar from mark 0 to the mark of the cell's number and one.
+fn try_bar(w: &mut [u32], c: u32) {
+    if 65535 < c {
+        return;
+    }
+    say(b"bound insert");
+    say_number(c);
+    say(b":");
+    say_verdict(insert(w, Cell(c), 1, &[0, c + 1]));
+    say(b"\n");
+}
+
+// Lists into an output of this length.
+fn lists_in(w: &[u32], out: &mut [u32]) {
+    say(b"bound star");
+    say_size(out.len());
+    say(b":");
+    let stars = star(w, 1, Mark(0), out);
+    say_list(stars, out);
+    say(b"\nbound cycle");
+    say_size(out.len());
+    say(b":");
+    let ring = cycle(w, Cell(7), 0, out);
+    say_list(ring, out);
+    say(b"\nbound neighbours");
+    say_size(out.len());
+    say(b":");
+    let near = neighbours(w, Cell(7), out);
+    say_list(near, out);
+    say(b"\n");
+}
+
+fn lists_too(w: &[u32], out: &mut [u32]) {
+    say(b"bound cells");
+    say_size(out.len());
+    say(b":");
+    let cells = cells_of_type(w, 1, out);
+    say_list(cells, out);
+    say(b"\nbound anchors");
+    say_size(out.len());
+    say(b":");
+    let first = anchors(w, 1, Mark(0), out);
+    say_list(first, out);
+    say(b"\n");
+}
+
+fn lists_all(w: &[u32], out: &mut [u32]) {
+    lists_in(w, out);
+    lists_too(w, out);
+}
+
+fn lists_cut(w: &[u32], out: &mut [u32], cut: usize) {
+    if cut <= out.len() {
+        lists_all(w, &mut out[cut..]);
+    }
+}
+
+// Lists into an output of 128 places, cut by some.
+fn lists(w: &[u32], cut: usize) {
+    let mut out = [0u32; 128];
+    lists_cut(w, &mut out, cut);
+}
+
+fn try_bars(w: &mut [u32]) {
+    for c in 0..129 {
+        try_bar(w, c);
+    }
+}
+
+// A mark's 128th and 129th cell.
+fn fill_mark(w: &mut [u32]) {
+    try_format(w, 130, 129);
+    try_bars(w);
+    lists(w, 2);
+    lists(w, 1);
+    lists(w, 0);
+}
+
+fn refill_mark(w: &mut [u32]) {
+    say(b"bound");
+    try_remove(w, 5);
+    lists(w, 1);
+    try_bar(w, 128);
+    try_bar(w, 5);
+    lists(w, 0);
+}
+
+fn full_mark() {
+    let mut w = [0u32; 5184];
+    fill_mark(&mut w);
+    refill_mark(&mut w);
+}
+
+fn main() {
+    for p in 1..18 {
+        one_case(p);
+    }
+    no_mesh();
+    formats();
+    full_mark();
+}

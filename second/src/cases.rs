@@ -1,0 +1,356 @@
+//! The outline's twelve cases and the runs that it asks for besides, each with
+//! everything that can be asked of it, as text.
+//!
+//! P1 to P12 are the twelve cases. R13 on are runs besides: a cell that comes
+//! back, quads, a mesh emptied again, a record cut short, edits that are all
+//! refused, memory that is no mesh. `bound` lines are the outline's "To run":
+//! capacities, rooms, a mark's 128th and 129th cell, lists that fit exactly
+//! and lists one place too long.
+
+use crate::{Memory, Refusal, Walker};
+use std::fmt::Write;
+
+const BAR: u32 = 1;
+const TRI: u32 = 2;
+const QUAD: u32 = 3;
+const TETRA: u32 = 4;
+
+/// The capacities of every case, and the words it lies in.
+const MARKS: u32 = 5;
+const CELLS: u32 = 4;
+const WORDS: usize = 16 + 8 * 5 + 32 * 4;
+
+/// A list room that no list of a case outgrows.
+const PLENTY: usize = 128;
+
+/// Cell number, type code, marks.
+type Record = (u32, u32, &'static [u32]);
+
+enum Edit {
+    Insert(Record),
+    Remove(u32),
+}
+
+use Edit::{Insert, Remove};
+
+/// A case: what it is built from, and the edits tried after that.
+struct Case {
+    name: &'static str,
+    built: &'static [Record],
+    edits: &'static [Edit],
+}
+
+const fn case(name: &'static str, built: &'static [Record], edits: &'static [Edit]) -> Case {
+    Case { name, built, edits }
+}
+
+const ONE: &[Record] = &[(0, TRI, &[0, 1, 2])];
+const THREE: &[Record] = &[
+    (0, TRI, &[0, 1, 2]),
+    (1, TRI, &[0, 1, 3]),
+    (2, TRI, &[0, 1, 4]),
+];
+const CLOSED: &[Record] = &[
+    (0, TRI, &[0, 2, 1]),
+    (1, TRI, &[0, 1, 3]),
+    (2, TRI, &[1, 2, 3]),
+    (3, TRI, &[2, 0, 3]),
+];
+
+const CASES: &[Case] = &[
+    case("P1", &[], &[]),
+    case("P2", ONE, &[]),
+    case("P3", &[(0, TRI, &[0, 1, 2]), (1, TRI, &[2, 1, 3])], &[]),
+    case("P4", THREE, &[]),
+    case("P5", &[(0, TRI, &[0, 1, 2]), (1, TRI, &[0, 3, 4])], &[]),
+    case(
+        "P6",
+        &[(0, TETRA, &[0, 1, 2, 3]), (1, TETRA, &[0, 2, 1, 4])],
+        &[],
+    ),
+    case("P7", CLOSED, &[]),
+    case("P8", &[(0, BAR, &[0, 1]), (1, BAR, &[1, 2])], &[]),
+    case("P9", THREE, &[Remove(1)]),
+    case("P10", ONE, &[Insert((1, TRI, &[2, 0, 1]))]),
+    case("P11", &[], &[Insert((0, TRI, &[0, 1, 1]))]),
+    case(
+        "P12",
+        &[(0, TRI, &[0, 1, 2]), (1, TETRA, &[0, 1, 2, 3])],
+        &[],
+    ),
+    case("R13", THREE, &[Remove(1), Insert((1, TRI, &[0, 1, 3]))]),
+    case(
+        "R14",
+        &[
+            (0, QUAD, &[0, 1, 2, 3]),
+            (1, QUAD, &[1, 0, 3, 4]),
+            (2, TRI, &[0, 1, 4]),
+        ],
+        &[Insert((3, BAR, &[0, 1]))],
+    ),
+    case("R15", CLOSED, &[Remove(0), Remove(3), Remove(1), Remove(2)]),
+    case("R16", &[(0, TRI, &[0, 1, 2]), (1, TETRA, &[0, 1, 2])], &[]),
+    case(
+        "R17",
+        ONE,
+        &[
+            Insert((4, TRI, &[0, 1, 3])),
+            Insert((0, TRI, &[0, 1, 3])),
+            Insert((1, 5, &[0, 1, 3])),
+            Insert((1, TRI, &[0, 1])),
+            Insert((1, TRI, &[0, 1, 5])),
+            Insert((1, TRI, &[3, 4, 3])),
+            Insert((1, TRI, &[1, 2, 0])),
+            Remove(4),
+            Remove(1),
+        ],
+    ),
+];
+
+/// All of it, one answer or one group of answers a line.
+pub fn text() -> String {
+    let mut text = Text::default();
+    for case in CASES {
+        text.case(case);
+    }
+    text.everything("R18", &Memory::lent(WORDS));
+    text.formats();
+    text.full_mark();
+    text.lines
+}
+
+/// An answer as text, or the number of its refusal.
+trait Answer {
+    fn says(&self) -> String;
+}
+
+impl Answer for () {
+    fn says(&self) -> String {
+        "accepted".to_string()
+    }
+}
+
+impl Answer for bool {
+    fn says(&self) -> String {
+        if *self { "yes" } else { "no" }.to_string()
+    }
+}
+
+impl Answer for u32 {
+    fn says(&self) -> String {
+        self.to_string()
+    }
+}
+
+impl Answer for usize {
+    fn says(&self) -> String {
+        self.to_string()
+    }
+}
+
+impl Answer for Walker {
+    fn says(&self) -> String {
+        self.half.to_string()
+    }
+}
+
+impl Answer for Option<u32> {
+    fn says(&self) -> String {
+        self.map_or("none".to_string(), |half| half.to_string())
+    }
+}
+
+impl Answer for Vec<u32> {
+    fn says(&self) -> String {
+        let numbers: Vec<String> = self.iter().map(u32::to_string).collect();
+        match numbers.as_slice() {
+            [] => "none".to_string(),
+            some => some.join(" "),
+        }
+    }
+}
+
+impl<A: Answer> Answer for Result<A, Refusal> {
+    fn says(&self) -> String {
+        match self {
+            Ok(answer) => answer.says(),
+            Err(refusal) => format!("refused {}", refusal.number()),
+        }
+    }
+}
+
+#[derive(Default)]
+struct Text {
+    lines: String,
+}
+
+impl Text {
+    fn line(&mut self, line: String) {
+        writeln!(self.lines, "{line}").expect("a string takes any text");
+    }
+
+    fn case(&mut self, case: &Case) {
+        let name = case.name;
+        let mut memory = Memory::lent(WORDS);
+        let mut words = Vec::new();
+        for &(cell, code, marks) in case.built {
+            words.extend([cell, code]);
+            words.extend(marks);
+        }
+        let built = match memory.build(MARKS, CELLS, &words) {
+            Ok(()) => "accepted".to_string(),
+            Err((refusal, place)) => format!("refused {} record {place}", refusal.number()),
+        };
+        self.line(format!("{name} build: {built}"));
+        for edit in case.edits {
+            self.edit(name, &mut memory, edit);
+        }
+        self.everything(name, &memory);
+    }
+
+    fn edit(&mut self, name: &str, memory: &mut Memory, edit: &Edit) {
+        match *edit {
+            Insert((cell, code, marks)) => {
+                let answer = memory.insert(cell, code, marks).says();
+                let marks = marks.to_vec().says();
+                self.line(format!(
+                    "{name} insert {cell} type {code} marks {marks}: {answer}"
+                ));
+            }
+            Remove(cell) => {
+                let answer = memory.remove(cell).says();
+                self.line(format!("{name} remove {cell}: {answer}"));
+            }
+        }
+    }
+
+    /// Every query with every argument, each also one past its range.
+    fn everything(&mut self, name: &str, memory: &Memory) {
+        for cell in 0..=CELLS {
+            self.cell(name, memory, cell);
+        }
+        for dimension in 0..=4 {
+            for mark in 0..=MARKS {
+                self.mark(name, memory, dimension, mark);
+            }
+        }
+        for code in 0..=5 {
+            let cells = memory.cells_of_type(code, PLENTY).says();
+            let count = memory.count_of_type(code).says();
+            self.line(format!("{name} type {code}: cells {cells}, count {count}"));
+        }
+        self.sets(name, memory);
+    }
+
+    fn cell(&mut self, name: &str, memory: &Memory, cell: u32) {
+        let code = memory.type_of(cell).says();
+        let marks = memory.marks_of(cell).says();
+        let neighbours = memory.neighbours(cell, PLENTY).says();
+        self.line(format!(
+            "{name} cell {cell}: type {code}, marks {marks}, neighbours {neighbours}"
+        ));
+        for facet in 0..=4 {
+            let sibling = memory.sibling(cell, facet).says();
+            let border = memory.border(cell, facet).says();
+            let cycle = memory.cycle(cell, facet, PLENTY).says();
+            let half = 8 * cell + facet;
+            let step = Walker { half }.step(memory).says();
+            self.line(format!(
+                "{name} half {cell} {facet}: \
+                 sibling {sibling}, border {border}, cycle {cycle}, step {step}"
+            ));
+        }
+    }
+
+    fn mark(&mut self, name: &str, memory: &Memory, dimension: u32, mark: u32) {
+        let star = memory.star(dimension, mark, PLENTY).says();
+        let anchors = memory.anchors(dimension, mark, PLENTY).says();
+        let first = memory.first_anchor(dimension, mark).says();
+        self.line(format!(
+            "{name} mark {mark} dimension {dimension}: \
+             star {star}, anchors {anchors}, first {first}"
+        ));
+    }
+
+    /// Sets of 1 to 3 marks, ascending, and one with none, with a repeat and
+    /// with four.
+    fn sets(&mut self, name: &str, memory: &Memory) {
+        for a in 0..=MARKS {
+            self.set(name, memory, &[a]);
+            for b in a + 1..=MARKS {
+                self.set(name, memory, &[a, b]);
+                for c in b + 1..=MARKS {
+                    self.set(name, memory, &[a, b, c]);
+                }
+            }
+        }
+        self.set(name, memory, &[]);
+        self.set(name, memory, &[1, 0, 1]);
+        self.set(name, memory, &[0, 1, 2, 3]);
+    }
+
+    fn set(&mut self, name: &str, memory: &Memory, set: &[u32]) {
+        let found = memory.lookup(set).says();
+        let set = set.to_vec().says();
+        self.line(format!("{name} lookup {set}: {found}"));
+    }
+
+    /// "capacities 65,535 and 65,536; room exact and one word short"
+    fn formats(&mut self) {
+        for (words, marks, cells) in [
+            (16 + 8 * 65_535, 65_535, 0),
+            (16 + 8 * 65_535 - 1, 65_535, 0),
+            (WORDS, 65_536, 0),
+            (WORDS, 0, 65_536),
+            (WORDS, 65_535, 65_535),
+            (WORDS, MARKS, CELLS),
+            (WORDS - 1, MARKS, CELLS),
+            (16, 0, 0),
+            (15, 0, 0),
+        ] {
+            let answer = Memory::lent(words).format(marks, cells).says();
+            self.line(format!(
+                "bound format {words} words {marks} {cells}: {answer}"
+            ));
+        }
+    }
+
+    /// "a mark's 128th and 129th cell; a list that fits exactly and one place
+    /// too short": bars from mark 0, one to each other mark.
+    fn full_mark(&mut self) {
+        let mut memory = Memory::lent(16 + 8 * 130 + 32 * 129);
+        let formatted = memory.format(130, 129).says();
+        self.line(format!("bound format 5184 words 130 129: {formatted}"));
+        for cell in 0..129 {
+            self.bar(&mut memory, cell);
+        }
+        for room in [126, 127, 128] {
+            self.lists(&memory, room);
+        }
+        let removed = memory.remove(5).says();
+        self.line(format!("bound remove 5: {removed}"));
+        self.lists(&memory, 127);
+        for cell in [128, 5] {
+            self.bar(&mut memory, cell);
+        }
+        self.lists(&memory, 128);
+    }
+
+    fn bar(&mut self, memory: &mut Memory, cell: u32) {
+        let answer = memory.insert(cell, BAR, &[0, cell + 1]).says();
+        self.line(format!("bound insert {cell}: {answer}"));
+    }
+
+    fn lists(&mut self, memory: &Memory, room: usize) {
+        let star = memory.star(1, 0, room).says();
+        let cycle = memory.cycle(7, 0, room).says();
+        let neighbours = memory.neighbours(7, room).says();
+        let cells = memory.cells_of_type(BAR, room).says();
+        let anchors = memory.anchors(1, 0, room).says();
+        self.line(format!("bound star {room}: {star}"));
+        self.line(format!("bound cycle {room}: {cycle}"));
+        self.line(format!("bound neighbours {room}: {neighbours}"));
+        self.line(format!("bound cells {room}: {cells}"));
+        self.line(format!("bound anchors {room}: {anchors}"));
+    }
+}
