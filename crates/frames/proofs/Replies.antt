@@ -1,0 +1,117 @@
+-- From what a call answers to the line that is written.
+use mathlib.Core.Path.{_≡_, refl, sym, ap, _∙_}
+use mathlib.Core.Bool.{Bool, true, false, cond, _||_}
+use mathlib.Core.List.{List, [], _∷_, _++_}
+use Prim.Native.Nat.{ℕ, _≤_}
+use native.Mathlib.Omega.{arith}
+use borrow.Author.Tests.{le-ltb}
+use lib.Dec.{ltb}
+use lib.ListN.{length}
+use Rattle.numbers.specs.Half.{halfOf}
+use Rattle.numbers.specs.Room.{room}
+use Rattle.map.specs.declared.Refusal.{Refusal}
+use Rattle.map.specs.declared.Refusal.the-variants.{CapacityAbove, BadFrame}
+use Rattle.map.specs.declared.Verdict.{Verdict}
+use Rattle.map.specs.declared.Verdict.the-variants.{Refused}
+use Rattle.map.specs.Cells.{Map}
+use Rattle.map.specs.Siblings.{sibling}
+use Rattle.map.specs.Stars.{star, anchors}
+use Rattle.map.specs.History.{mapIn, empty}
+use Rattle.map.specs.Answers.{Check, Answer, _when_, answer, listAnswer, formatChecks, starChecks, halfChecks, siblingAnswer, starAnswer, anchorsAnswer}
+use Rattle.map.specs.Paper.{given, refused, verdictSays}
+use Rattle.frames.specs.Frames.{Format, Star, Anchors, Sibling, Bad, twoBytes, counted, cellAndFacet, replyTo, mapAfter}
+
+-- a call that gives one value tells of its checks, whatever they are asked for
+module _ (value : ℕ) (values : List ℕ) where
+  answer-given : (checks : List Check) (n : ℕ) → given (n ∷ []) ≡ answer checks (value ∷ []) → (n ≡ value) × (answer checks values ≡ given values)
+  unfolding given answer
+  answer-given [] n e = let z : _≡_ {A = List ℕ} (n ∷ []) (value ∷ []) = ap (λ (a : Answer). a .values) e in (cc, refl)
+  answer-given (c ∷ cs) n e = go (c .fails) e (answer-given cs n)
+    where
+      go : (t : Bool) → given (n ∷ []) ≡ cond t (record { refusal = c .number; values = [] }) (answer cs (value ∷ []))
+          → (given (n ∷ []) ≡ answer cs (value ∷ []) → (n ≡ value) × (answer cs values ≡ given values))
+          → (n ≡ value) × (cond t (record { refusal = c .number; values = [] }) (answer cs values) ≡ given values)
+      go true f next = let z : _≡_ {A = List ℕ} (n ∷ []) [] = ap (λ (a : Answer). a .values) f in let o : _≡_ {A = ℕ} 0 1 = cc in absurd (omega arith)
+      go false f next = next f
+
+  answer-refused : (checks : List Check) (why : Refusal) → refused why ≡ answer checks (value ∷ []) → answer checks values ≡ refused why
+  unfolding refused answer
+  answer-refused [] why e = let z : _≡_ {A = List ℕ} [] (value ∷ []) = ap (λ (a : Answer). a .values) e in let o : _≡_ {A = ℕ} 0 1 = cc in absurd (omega arith)
+  answer-refused (c ∷ cs) why e = go (c .fails) e (answer-refused cs why)
+    where
+      go : (t : Bool) → refused why ≡ cond t (record { refusal = c .number; values = [] }) (answer cs (value ∷ []))
+          → (refused why ≡ answer cs (value ∷ []) → answer cs values ≡ refused why)
+          → cond t (record { refusal = c .number; values = [] }) (answer cs values) ≡ refused why
+      go true f next = sym f
+      go false f next = next f
+
+-- a last check that passes changes nothing
+last-passes : (cs : List Check) (c : Check) (values : List ℕ) → c .fails ≡ false → answer (cs ++ (c ∷ [])) values ≡ answer cs values
+unfolding answer
+last-passes [] c values e = rw e
+last-passes (d ∷ ds) c values e = rw (last-passes ds c values e)
+
+-- a list that fits is never refused with 12
+fitting : (checks : List Check) (l : List ℕ) (places : ℕ) → length l ≤ places → listAnswer checks l places ≡ answer checks (length l ∷ [])
+unfolding listAnswer _when_
+fitting checks l places h = last-passes checks (12 when ltb places (length l)) (length l ∷ []) (le-ltb places (length l) h)
+
+module _ (m : Map) where
+  -- "The program keeps at most 384 marks and 384 cells; more is refused with 1."
+  pub reply-above : (marks cells : ℕ) → ltb 384 marks || ltb 384 cells ≡ true → replyTo m (Format marks cells) ≡ verdictSays (Refused CapacityAbove)
+  unfolding replyTo answer _when_ verdictSays refused
+  reply-above marks cells e = rw e
+
+  pub reply-format : (marks cells words : ℕ) (v : Verdict) → marks ≤ 384 → cells ≤ 384 → room 384 384 ≤ words
+      → verdictSays v ≡ answer (formatChecks words marks cells) [] → replyTo m (Format marks cells) ≡ verdictSays v
+  unfolding replyTo answer formatChecks _when_ room
+  reply-format marks cells words v a b h e =
+      sym
+      (e
+      ∙ rw (le-ltb 65535 marks (omega arith), le-ltb 65535 cells (omega arith), le-ltb words (room marks cells) (omega arith), le-ltb 384 marks a, le-ltb 384 cells b))
+
+  pub map-format : (marks cells : ℕ) → marks ≤ 384 → cells ≤ 384 → mapAfter m (Format marks cells) ≡ mapIn (empty marks cells)
+  unfolding mapAfter replyTo answer _when_
+  map-format marks cells a b = rw (le-ltb 384 marks a, le-ltb 384 cells b)
+
+  pub map-above : (marks cells : ℕ) → ltb 384 marks || ltb 384 cells ≡ true → mapAfter m (Format marks cells) ≡ m
+  unfolding mapAfter replyTo answer _when_
+  map-above marks cells e = rw e
+
+  pub reply-star : (d v places n : ℕ) → length (star m d v) ≤ places → given (n ∷ []) ≡ starAnswer m d v places
+      → (n ≡ length (star m d v)) × (replyTo m (Star d v) ≡ given (counted twoBytes (star m d v)))
+  unfolding replyTo starAnswer
+  reply-star d v places n h e =
+      answer-given (length (star m d v)) (counted twoBytes (star m d v)) (starChecks m d v) n (e ∙ fitting (starChecks m d v) (star m d v) places h)
+
+  pub reply-star-refused : (d v places : ℕ) (why : Refusal) → length (star m d v) ≤ places → refused why ≡ starAnswer m d v places
+      → replyTo m (Star d v) ≡ refused why
+  unfolding replyTo starAnswer
+  reply-star-refused d v places why h e =
+      answer-refused (length (star m d v)) (counted twoBytes (star m d v)) (starChecks m d v) why (e ∙ fitting (starChecks m d v) (star m d v) places h)
+
+  pub reply-anchors : (d v places n : ℕ) → length (anchors m d v) ≤ places → given (n ∷ []) ≡ anchorsAnswer m d v places
+      → (n ≡ length (anchors m d v)) × (replyTo m (Anchors d v) ≡ given (counted cellAndFacet (anchors m d v)))
+  unfolding replyTo anchorsAnswer
+  reply-anchors d v places n h e =
+      answer-given (length (anchors m d v)) (counted cellAndFacet (anchors m d v)) (starChecks m d v) n (e ∙ fitting (starChecks m d v) (anchors m d v) places h)
+
+  pub reply-anchors-refused : (d v places : ℕ) (why : Refusal) → length (anchors m d v) ≤ places → refused why ≡ anchorsAnswer m d v places
+      → replyTo m (Anchors d v) ≡ refused why
+  unfolding replyTo anchorsAnswer
+  reply-anchors-refused d v places why h e =
+      answer-refused (length (anchors m d v)) (counted cellAndFacet (anchors m d v)) (starChecks m d v) why (e ∙ fitting (starChecks m d v) (anchors m d v) places h)
+
+  pub reply-sibling : (c f h : ℕ) → given (h ∷ []) ≡ siblingAnswer m c f → replyTo m (Sibling c f) ≡ given (cellAndFacet h)
+  unfolding replyTo siblingAnswer
+  reply-sibling c f h e =
+      let r = answer-given (sibling m (halfOf c f)) (cellAndFacet (sibling m (halfOf c f))) (halfChecks m c f) h e in
+      r .1 ∙ ap (λ (k : ℕ). given (cellAndFacet k)) (sym (r .0))
+
+  pub reply-sibling-refused : (c f : ℕ) (why : Refusal) → refused why ≡ siblingAnswer m c f → replyTo m (Sibling c f) ≡ refused why
+  unfolding replyTo siblingAnswer
+  reply-sibling-refused c f why e = answer-refused (sibling m (halfOf c f)) (cellAndFacet (sibling m (halfOf c f))) (halfChecks m c f) why e
+
+  pub reply-bad : replyTo m Bad ≡ verdictSays (Refused BadFrame)
+  unfolding replyTo answer _when_ verdictSays refused
+  reply-bad = refl

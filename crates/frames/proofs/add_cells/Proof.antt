@@ -1,0 +1,65 @@
+-- `frames::add_cells` meets its contract.
+use mathlib.Core.Path.{refl}
+use Prim.Native.Nat.{_-_, _≤_}
+use native.Mathlib.Omega.{arith}
+use lib.ListN.{length, take}
+use Rattle.frames.specs.Forms.{Appended}
+use Rattle.frames.specs.Frames.{twoBytes, each, hex}
+use Rattle.frames.proofs.Append.{append-length}
+use Rattle.frames.proofs.Texts.{each-none, each-more, each-all}
+use borrow.Author.Needs.{needs}
+use Rattle.frames.proofs.add_cells.Statement.{statement}
+use Rattle.frames.proofs.add_cells.Tie as tie
+
+abbrev Inv-loop : tie.InvT-loop
+Inv-loop out₀ at cells next₀ i₀ out next i = (i ≤ length cells) × Appended (hex (each twoBytes (take i cells))) out₀ at next out
+
+abbrev μ-loop : tie.MeasureT-loop
+μ-loop out₀ at cells next₀ i₀ out next i = length cells - i
+
+loop-holds : tie.Need-loop-holds Inv-loop μ-loop
+loop-holds c = (search needs, each-none twoBytes (c .before .before .args .cells .now) _ _)
+
+mul-add-number : tie.Need-mul-add-number Inv-loop μ-loop
+mul-add-number c = search needs
+
+shared-slice-read-add-number : tie.Need-shared-slice-read-add-number Inv-loop μ-loop
+shared-slice-read-add-number c = search needs
+
+cast-add-number : tie.Need-cast-add-number Inv-loop μ-loop
+cast-add-number c = omega (arith, c .shared-slice-known2 .given (c .before .before .before .loop .i))
+
+add-number-requires : tie.Need-add-number-requires Inv-loop μ-loop
+add-number-requires c κs = search needs
+
+add-i : tie.Need-add-i Inv-loop μ-loop
+add-i c = search needs
+
+loop-less : tie.Need-loop-less Inv-loop μ-loop
+loop-less c = search needs
+
+loop-again : tie.Need-loop-again Inv-loop μ-loop
+loop-again c = (omega arith, each-more twoBytes _ (c .before .before .before .before .before .before .loop .i) _ (omega arith) refl (c .before .before .before .before .before .before .loop .inv .1) (c .before .before .add-number .ensures))
+
+same-length : tie.Need-same-length Inv-loop μ-loop
+same-length c = append-length _ (c .before .loop .inv .1)
+
+returns : tie.Need-returns Inv-loop μ-loop
+returns c = each-all twoBytes _ (c .before .loop .i) (omega arith) (c .before .loop .inv .1)
+
+pub add-cells-spec : {M : Type 1} → statement M
+add-cells-spec =
+    tie.close
+    (tie.spec
+    Inv-loop
+    μ-loop
+    loop-holds
+    mul-add-number
+    shared-slice-read-add-number
+    cast-add-number
+    add-number-requires
+    add-i
+    loop-less
+    loop-again
+    same-length
+    returns)

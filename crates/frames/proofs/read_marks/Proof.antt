@@ -1,0 +1,73 @@
+-- `frames::read_marks` meets its contract.
+use mathlib.Core.Path.{_≡_, refl, ap, _∙_}
+use Prim.Native.Nat.{_-_, _/_, _≤_}
+use native.Mathlib.Omega.{arith}
+use lib.ListN.{length}
+use lib.Seq.{sets, length-sets}
+use Rattle.lists.specs.Lists.{listOf}
+use Rattle.frames.proofs.Lines.{markAt, store-start, store-more, marks-none, marks-all}
+use borrow.Author.Needs.{needs}
+use Rattle.frames.proofs.read_marks.Statement.{statement}
+use Rattle.frames.proofs.read_marks.Tie as tie
+
+abbrev Inv-loop : tie.InvT-loop
+Inv-loop line marks₀ n i₀ marks i = (i ≤ n) × (n ≡ (length line / 2 - 4) / 2) × (marks ≡ sets marks₀ 0 (listOf i (markAt line)))
+
+abbrev μ-loop : tie.MeasureT-loop
+μ-loop line marks₀ n i₀ marks i = n - i
+
+returns : tie.Need-returns Inv-loop μ-loop
+returns c = marks-none _ _ (c .if1 .taken)
+
+sub-n : tie.Need-sub-n Inv-loop μ-loop
+sub-n c = search needs
+
+loop-holds : tie.Need-loop-holds Inv-loop μ-loop
+loop-holds c = (omega arith, refl, store-start _ _)
+
+mul-number-at : tie.Need-mul-number-at Inv-loop μ-loop
+mul-number-at c = search needs
+
+add-number-at : tie.Need-add-number-at Inv-loop μ-loop
+add-number-at c = search needs
+
+number-at-requires : tie.Need-number-at-requires Inv-loop μ-loop
+number-at-requires c κs = search needs
+
+put-requires : tie.Need-put-requires Inv-loop μ-loop
+put-requires c κs = search needs
+
+add-i : tie.Need-add-i Inv-loop μ-loop
+add-i c = search needs
+
+loop-less : tie.Need-loop-less Inv-loop μ-loop
+loop-less c = search needs
+
+loop-again : tie.Need-loop-again Inv-loop μ-loop
+unfolding markAt
+loop-again c = (omega arith, c .before .before .before .before .before .before .loop .inv .1, store-more _ _ (c .before .before .before .before .before .before .loop .i) _ _ _ (c .before .before .before .before .before .before .loop .inv .2) (c .before .before .put .ensures) (c .before .before .before .number-at .ensures))
+
+same-length : tie.Need-same-length Inv-loop μ-loop
+same-length c = ap length (c .before .loop .inv .2) ∙ simp length-sets
+
+returns-2 : tie.Need-returns-2 Inv-loop μ-loop
+returns-2 c = marks-all _ _ (c .before .loop .i) _ _ (c .before .loop .inv .1) (c .before .loop .inv .0) (omega arith) (c .before .loop .inv .2)
+
+pub read-marks-spec : {M : Type 1} → statement M
+read-marks-spec =
+    tie.close
+    (tie.spec
+    Inv-loop
+    μ-loop
+    returns
+    sub-n
+    loop-holds
+    mul-number-at
+    add-number-at
+    number-at-requires
+    put-requires
+    add-i
+    loop-less
+    loop-again
+    same-length
+    returns-2)
