@@ -227,9 +227,20 @@ impl Memory {
         Ok(map::cells_of_type(&mesh.live, row).len())
     }
 
-    /// "The whole check never refuses".
+    /// "The whole check never refuses". Yes if memory holds a mesh, and a build
+    /// from its own live cells is accepted.
     pub fn whole(&self) -> bool {
-        self.held().is_ok()
+        let Ok(mesh) = self.held() else {
+            return false;
+        };
+        let mut afresh = Memory::lent(self.words);
+        if afresh.format(mesh.marks, mesh.cells).is_err() {
+            return false;
+        }
+        mesh.live.iter().all(|cell| {
+            let marks: Vec<u32> = cell.marks.iter().map(|mark| mark.0).collect();
+            afresh.insert(cell.number.0, cell.row.code, &marks).is_ok()
+        })
     }
 
     /// 14: "memory is under 16 words, or its head gives no capacities or gives

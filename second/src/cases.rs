@@ -224,7 +224,8 @@ impl Text {
         }
     }
 
-    /// Every query with every argument, each also one past its range.
+    /// Every query with every argument, each also one past its range; and the
+    /// whole check.
     fn everything(&mut self, name: &str, memory: &Memory) {
         for cell in 0..=CELLS {
             self.cell(name, memory, cell);
@@ -240,6 +241,8 @@ impl Text {
             self.line(format!("{name} type {code}: cells {cells}, count {count}"));
         }
         self.sets(name, memory);
+        let whole = if memory.whole() { "yes" } else { "no" };
+        self.line(format!("{name} whole: {whole}"));
     }
 
     fn cell(&mut self, name: &str, memory: &Memory, cell: u32) {

@@ -33,6 +33,7 @@ use mesh::remove;
 use numbers::Cell;
 use numbers::Mark;
 use numbers::half_of;
+use whole::whole;
 use words::part;
 use words::word;
 
@@ -358,7 +359,16 @@ fn about_sets(w: &[u32], p: u32) {
     }
 }
 
-// Every query with every argument, each also one past its range.
+fn about_whole(w: &[u32], p: u32) {
+    say_case(p);
+    if whole(w) {
+        say(b" whole: yes\n");
+    } else {
+        say(b" whole: no\n");
+    }
+}
+
+// Every query with every argument, each also one past its range; and the whole check.
 fn everything(w: &[u32], p: u32) {
     about_cells(w, p);
     about_dimensions(w, p);
@@ -367,6 +377,7 @@ fn everything(w: &[u32], p: u32) {
     about_set(w, p, &[]);
     about_set(w, p, &[1, 0, 1]);
     about_set(w, p, &[0, 1, 2, 3]);
+    about_whole(w, p);
 }
 
 fn try_remove(w: &mut [u32], c: u32) {
