@@ -2,16 +2,18 @@
 use mathlib.Core.Path.{_≡_, refl, sym, ap, _∙_}
 use mathlib.Core.Bool.{true, false}
 use mathlib.Core.List.{List, [], _∷_, _++_}
-use Prim.Native.Nat.{ℕ, _+_, _<_, _≤_}
+use Prim.Native.Nat.{ℕ, _+_, _-_, _<_, _≤_}
 use native.Mathlib.Decide.{decLt}
 use native.Mathlib.Omega.{arith}
 use borrow.Author.Tests.{lt-ltb, le-ltb, ne-eqb}
 use lib.Dec.{ltb}
-use lib.ListN.{getD, length, drop}
+use lib.ListN.{getD, length, drop, length-append, length-drop}
+use lib.Seq.{getD-append-add, getD-drop}
 use Rattle.lists.specs.Lists.{listOf}
 use Rattle.lists.specs.Filled.{Copied}
 use Rattle.lists.proofs.Bools.{clash}
 use Rattle.lists.proofs.Fill.{filled-take, length-listOf, listOf-take}
+use Rattle.words.specs.Words.{Only}
 use Rattle.store.specs.declared.Caps.{Caps}
 use Rattle.store.specs.declared.Opened.the-variants.{Mesh, Nothing}
 use Rattle.store.specs.Open.{opened}
@@ -50,11 +52,28 @@ pub copied-list : (l zeros from : List ℕ) (n : ℕ) → n ≤ length zeros →
 copied-list l zeros from n room c =
     listOf-take from n (omega (arith, c .filled .size)) ∙ rw (c .count) (filled-take l zeros from (c .filled) (omega (arith, c .count)))
 
+-- a refusal gives no count, and a count is no refusal
+not-given : (n : ℕ) (why : Refusal) → Val.Refused why ≡ Val.Is n → ⊥
+not-given n why e = let z : _≡_ {A = ℕ} 0 1 = cc in omega arith
+
+count-one : (n k : ℕ) → Val.Is n ≡ Val.Is k → n ≡ k
+count-one n k e = cc
+
+-- a list in the first places of an output changes only those
+pub first-only : (l o o′ : List ℕ) (n : ℕ) → length l ≤ n → n ≤ length o → o′ ≡ l ++ drop (length l) o → Only (λ i. i < n) o o′
+first-only l o o′ n a b e = record {
+  size = rw (e, length-append, length-drop) (omega arith);
+  same = λ i f.
+      let z : length l + (i - length l) ≡ i = omega arith in
+      rw e (ap (λ (k : ℕ). getD (l ++ drop (length l) o) k 0) (sym z) ∙ (getD-append-add l (drop (length l) o) (i - length l) 0 ∙ (getD-drop (length l) o (i - length l) 0 ∙ ap (λ (k : ℕ). getD o k 0) z)));
+}
+
 module _ (w : List ℕ) (checks : Map → List Check) (list : Map → List ℕ) (o : List ℕ) where
   pub listing-none : Nothing ≡ opened w → Listing w checks list o (Val.Refused NotMesh) o
   listing-none e = record {
     refused = λ _. refl;
     kept = λ why q. refl;
+    first = λ n q. absurd (not-given n NotMesh q);
     answers = λ m wf. absurd (clash (wf-mesh w m wf) (nothing-opened w e));
   }
 
@@ -64,6 +83,7 @@ module _ (w : List ℕ) (checks : Map → List Check) (list : Map → List ℕ) 
     listing-refused why v = record {
       refused = λ none. absurd (clash (mesh-opened w caps opens .0) none);
       kept = λ other q. refl;
+      first = λ n q. absurd (not-given n why q);
       answers = λ m wf.
           let a = refused-more (checks m) ((12 when ltb (length o) (length (list m))) ∷ []) why (length (list m) ∷ [])
           (ap verdictSays (sym v) ∙ checked .says m (wf-caps w m wf caps opens) wf) in
@@ -85,6 +105,7 @@ module _ (w : List ℕ) (checks : Map → List Check) (list : Map → List ℕ) 
       listing-short n h counts = record {
         refused = λ none. absurd (clash (mesh-opened w caps opens .0) none);
         kept = λ why q. refl;
+        first = λ n q. absurd (not-given n OutputShort q);
         answers = λ m wf.
             let p = counts m (wf-caps w m wf caps opens) wf in
             let short : ltb (length o) (length (list m)) ≡ true = lt-ltb (length o) (length (list m)) (omega (arith, p)) in
@@ -92,21 +113,19 @@ module _ (w : List ℕ) (checks : Map → List Check) (list : Map → List ℕ) 
       }
 
       -- the list stands in the first places of the output
-      pub listing-wrote : (n : ℕ) (o′ : List ℕ) → n ≤ length o
+      pub listing-wrote : (n : ℕ) (o′ : List ℕ) → n ≤ length o → Only (λ i. i < n) o o′
           → ((m : Map) → capsOf m ≡ caps → Wf w m → (n ≡ length (list m)) × (o′ ≡ list m ++ drop (length (list m)) o))
           → Listing w checks list o (Val.Is n) o′
       unfolding _when_ answer valueSays given listed
-      listing-wrote n o′ h written = record {
+      listing-wrote n o′ h only written = record {
         refused = λ none. absurd (clash (mesh-opened w caps opens .0) none);
-        kept = λ why q. absurd (never why q);
+        kept = λ why q. absurd (not-given n why (sym q));
+        first = λ k q. rw (← count-one n k q) (h, only);
         answers = λ m wf.
             let p = written m (wf-caps w m wf caps opens) wf in
             let fits : ltb (length o) (length (list m)) ≡ false = le-ltb (length o) (length (list m)) (omega (arith, p .0)) in
             rw (← behind m wf, fits) (ap (λ (k : ℕ). record { refusal = 0; values = k ∷ [] }) (p .0), p .1);
       }
-        where
-          never : (why : Refusal) → Val.Is n ≡ Val.Refused why → ⊥
-          never why e = let z : _≡_ {A = ℕ} 0 1 = cc in omega arith
 
       module _ (zeros from : List ℕ) (n : ℕ) (room : (m : Map) → capsOf m ≡ caps → Wf w m → n ≤ length zeros)
           (lists : (m : Map) → capsOf m ≡ caps → Wf w m → Copied (list m) zeros n from) where
@@ -123,9 +142,14 @@ module _ (w : List ℕ) (checks : Map → List Check) (list : Map → List ℕ) 
                 let p = whole m e wf in
                 (p .0, rw (← p .1, length-listOf) (g .fits h .1))
 
+            only : n ≤ length o → Only (λ i. i < n) o o′
+            only h =
+                let size = length-listOf n (λ i. getD from i 0) in
+                first-only (listOf n (λ i. getD from i 0)) o o′ n (omega (arith, size)) h (rw size (g .fits h .1))
+
             go : Dec (length o < n) → Listing w checks list o r o′
             go (yes h) = rw (g .short h .0, g .short h .1) (listing-short n h (λ m e wf. lists m e wf .count))
-            go (no f) = rw (g .fits (omega arith) .0) (listing-wrote n o′ (omega arith) (gives (omega arith)))
+            go (no f) = rw (g .fits (omega arith) .0) (listing-wrote n o′ (omega arith) (only (omega arith)) (gives (omega arith)))
 
 -- what a reader gives on the state of a map
 pub gives-list : (w : List ℕ) (caps : Caps) (most : ℕ) (ok : State → Type 0) (list : Map → List ℕ) (o o′ : List ℕ) (r : ℕ) → Gives w caps most ok list o r o′

@@ -1,5 +1,5 @@
--- What a listing query promises: memory that is no mesh is refused with 14; a refusal changes no place of the output, on any memory; on
--- well-formed memory the answer is the definition's, and a list that fits changes only its first places.
+-- What a listing query promises: memory that is no mesh is refused with 14; a refusal changes no place of the output, and a list that fits
+-- changes only its first places, on any memory; on well-formed memory the answer and the places are the definition's.
 use mathlib.Core.Path.{_≡_}
 use mathlib.Core.Bool.{false, cond}
 use mathlib.Core.List.{List, _++_}
@@ -7,6 +7,7 @@ use Prim.Native.Nat.{ℕ, _<_, _≤_}
 use lib.Dec.{eqb}
 use lib.ListN.{getD, length, drop}
 use Rattle.lists.specs.Lists.{listOf}
+use Rattle.words.specs.Words.{Only}
 use Rattle.store.specs.Slots.{isMesh}
 use Rattle.map.specs.Cells.{Map}
 use Rattle.map.specs.Answers.{Check, Answer, listAnswer}
@@ -24,6 +25,7 @@ listed a l out = cond (eqb (a .refusal) 0) (l ++ drop (length l) out) out
 pub record Listing (w : List ℕ) (checks : Map → List Check) (list : Map → List ℕ) (o : List ℕ) (r : Value) (o′ : List ℕ) : Type 0 where
   pub refused : isMesh w ≡ false → r ≡ Refused NotMesh
   pub kept : (why : Refusal) → r ≡ Refused why → o′ ≡ o
+  pub first : (n : ℕ) → r ≡ Is n → (n ≤ length o) × Only (λ i. i < n) o o′
   pub answers : (m : Map) → Wf w m
       → (valueSays r ≡ listAnswer (checks m) (list m) (length o)) × (o′ ≡ listed (listAnswer (checks m) (list m) (length o)) (list m) o)
 
