@@ -1,0 +1,45 @@
+//! A complaint, start to end: a viaduct over a hillside, the cells around a
+//! mark, one removed, the cells again.
+//!
+//! `cargo run --example complaint`
+
+use mengkiloh::{Mesh, Refusal, Type};
+
+fn main() -> Result<(), Refusal> {
+    // a hillside of two sheets that touch in mark 2, and over it a viaduct: a
+    // deck on the edge of marks 1 and 2, which then has three cells
+    let mut map = Mesh::with_room(9, 8)?;
+    map.insert(0, Type::Triangle, &[0, 1, 2])?;
+    map.insert(1, Type::Triangle, &[1, 3, 2])?;
+    map.insert(2, Type::Triangle, &[2, 4, 5])?;
+    map.insert(3, Type::Quad, &[1, 2, 6, 7])?;
+    map.insert(4, Type::Bar, &[2, 8])?;
+
+    tell(&map, 2)?;
+    println!("cell 1 is taken down");
+    map.remove(1)?;
+    tell(&map, 2)?;
+
+    match map.insert(5, Type::Triangle, &[2, 0, 1]) {
+        Ok(()) => println!("cell 5 stands"),
+        Err(refusal) => println!("cell 5 is refused with {}", refusal.number()),
+    }
+    Ok(())
+}
+
+fn tell(map: &Mesh<Vec<u32>>, mark: u32) -> Result<(), Refusal> {
+    for dimension in 1..=3 {
+        println!(
+            "mark {mark}, dimension {dimension}: cells {:?}",
+            map.star(dimension, mark)?
+        );
+    }
+    for anchor in map.anchors(2, mark)? {
+        println!(
+            "a sheet begins at cell {}, facet {}",
+            anchor.cell(),
+            anchor.facet()
+        );
+    }
+    Ok(())
+}

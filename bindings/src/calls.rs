@@ -1,0 +1,89 @@
+//! The calls of include/mengkiloh.h.
+
+extern "C" {
+    pub fn mk_format(mesh: *mut u32, words: usize, marks: u32, cells: u32) -> u8;
+    pub fn mk_build(
+        mesh: *mut u32,
+        words: usize,
+        marks: u32,
+        cells: u32,
+        records: *const u32,
+        count: usize,
+        place: *mut u32,
+    ) -> u8;
+    pub fn mk_insert(
+        mesh: *mut u32,
+        words: usize,
+        cell: u32,
+        code: u32,
+        marks: *const u32,
+        count: usize,
+    ) -> u8;
+    pub fn mk_remove(mesh: *mut u32, words: usize, cell: u32) -> u8;
+    pub fn mk_type(mesh: *const u32, words: usize, cell: u32, code: *mut u32) -> u8;
+    pub fn mk_marks(mesh: *const u32, words: usize, cell: u32, at: *mut u32, count: *mut u32)
+        -> u8;
+    pub fn mk_sibling(mesh: *const u32, words: usize, cell: u32, facet: u32, half: *mut u32) -> u8;
+    pub fn mk_cycle(
+        mesh: *const u32,
+        words: usize,
+        cell: u32,
+        facet: u32,
+        out: *mut u32,
+        room: usize,
+        count: *mut u32,
+    ) -> u8;
+    pub fn mk_border(mesh: *const u32, words: usize, cell: u32, facet: u32, yes: *mut u32) -> u8;
+    pub fn mk_star(
+        mesh: *const u32,
+        words: usize,
+        dimension: u32,
+        mark: u32,
+        out: *mut u32,
+        room: usize,
+        count: *mut u32,
+    ) -> u8;
+    pub fn mk_anchors(
+        mesh: *const u32,
+        words: usize,
+        dimension: u32,
+        mark: u32,
+        out: *mut u32,
+        room: usize,
+        count: *mut u32,
+    ) -> u8;
+    pub fn mk_first_anchor(
+        mesh: *const u32,
+        words: usize,
+        dimension: u32,
+        mark: u32,
+        found: *mut u32,
+        half: *mut u32,
+    ) -> u8;
+    pub fn mk_neighbours(
+        mesh: *const u32,
+        words: usize,
+        cell: u32,
+        out: *mut u32,
+        room: usize,
+        count: *mut u32,
+    ) -> u8;
+    pub fn mk_lookup(
+        mesh: *const u32,
+        words: usize,
+        set: *const u32,
+        n: usize,
+        found: *mut u32,
+        half: *mut u32,
+    ) -> u8;
+    pub fn mk_cells(
+        mesh: *const u32,
+        words: usize,
+        code: u32,
+        out: *mut u32,
+        room: usize,
+        count: *mut u32,
+    ) -> u8;
+    pub fn mk_count(mesh: *const u32, words: usize, code: u32, count: *mut u32) -> u8;
+    pub fn mk_whole(mesh: *const u32, words: usize) -> u8;
+}

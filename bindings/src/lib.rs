@@ -1,0 +1,378 @@
+//! The complaint matcher's map for Rust.
+//!
+//! A [`Mesh`] holds survey marks joined by bars, triangles, quads and
+//! tetrahedra in words that you own or lend. A complaint names a mark; the
+//! [star](Mesh::star) of the mark lists every cell around it: none missing,
+//! none extra.
+//!
+//! ```
+//! use mengkiloh::{Mesh, Type};
+//!
+//! # fn main() -> Result<(), mengkiloh::Refusal> {
+//! let mut map = Mesh::with_room(6, 4)?;
+//! map.insert(0, Type::Triangle, &[0, 1, 2])?;
+//! map.insert(1, Type::Triangle, &[2, 1, 3])?;
+//! assert_eq!(map.star(2, 1)?, [0, 1]);
+//! map.remove(0)?;
+//! assert_eq!(map.star(2, 1)?, [1]);
+//! # Ok(())
+//! # }
+//! ```
+//!
+//! Every call is one of the proved library's, which this crate links; it adds
+//! no rule of its own. A call that is refused changes nothing and gives the
+//! [`Refusal`] with its number.
+
+mod calls;
+mod refusal;
+
+use std::fmt;
+
+pub use refusal::Refusal;
+
+/// A mark or a cell stands in at most so many places of a list: the star, the
+/// anchors and the cycle of anything.
+const LONGEST_LIST: usize = 128;
+
+/// A cell has at most so many neighbours: 127 across each of 4 facets.
+const MOST_NEIGHBOURS: usize = 4 * 127;
+
+/// The words that a mesh of these capacities needs.
+pub const fn room(marks: u32, cells: u32) -> usize {
+    16 + 8 * marks as usize + 32 * cells as usize
+}
+
+/// The types of cells, with their codes.
+#[derive(Clone, Copy, Debug, PartialEq, Eq, PartialOrd, Ord, Hash)]
+pub enum Type {
+    Bar = 1,
+    Triangle = 2,
+    Quad = 3,
+    Tetrahedron = 4,
+}
+
+impl From<Type> for u32 {
+    fn from(kind: Type) -> u32 {
+        kind as u32
+    }
+}
+
+impl TryFrom<u32> for Type {
+    type Error = u32;
+
+    /// The type of a code; the code itself where there is none.
+    fn try_from(code: u32) -> Result<Type, u32> {
+        match code {
+            1 => Ok(Type::Bar),
+            2 => Ok(Type::Triangle),
+            3 => Ok(Type::Quad),
+            4 => Ok(Type::Tetrahedron),
+            _ => Err(code),
+        }
+    }
+}
+
+/// A half-facet: a facet of a live cell, by its number 8 × cell + facet.
+#[derive(Clone, Copy, Debug, PartialEq, Eq, PartialOrd, Ord, Hash)]
+pub struct Half(pub u32);
+
+impl Half {
+    pub fn cell(self) -> u32 {
+        self.0 / 8
+    }
+
+    pub fn facet(self) -> u32 {
+        self.0 % 8
+    }
+}
+
+/// A walker over one sibling cycle.
+#[derive(Clone, Copy, Debug, PartialEq, Eq)]
+pub struct Walker(pub Half);
+
+impl Walker {
+    /// The next place of the cycle as it is now, or the refusal for the
+    /// walker's half-facet.
+    pub fn step<W: AsRef<[u32]>>(self, mesh: &Mesh<W>) -> Result<Walker, Refusal> {
+        let Walker(half) = self;
+        mesh.sibling(half.cell(), half.facet()).map(Walker)
+    }
+}
+
+/// A build that was refused: why, and at which record (from 0).
+#[derive(Clone, Copy, Debug, PartialEq, Eq)]
+pub struct BuildRefused {
+    pub refusal: Refusal,
+    pub record: u32,
+}
+
+impl fmt::Display for BuildRefused {
+    fn fmt(&self, to: &mut fmt::Formatter<'_>) -> fmt::Result {
+        write!(to, "record {}: {}", self.record, self.refusal)
+    }
+}
+
+impl std::error::Error for BuildRefused {}
+
+/// A mesh over words: a `Vec<u32>` of its own, or `&mut [u32]` or `&[u32]`
+/// that are lent to it.
+#[derive(Clone, Debug)]
+pub struct Mesh<W> {
+    words: W,
+}
+
+impl Mesh<Vec<u32>> {
+    /// A mesh of these capacities with no cell, in words of its own.
+    pub fn with_room(marks: u32, cells: u32) -> Result<Mesh<Vec<u32>>, Refusal> {
+        let mut mesh = Mesh::over(Vec::new());
+        if marks <= 65_535 && cells <= 65_535 {
+            mesh.words.resize(room(marks, cells), 0);
+        }
+        mesh.format(marks, cells)?;
+        Ok(mesh)
+    }
+}
+
+impl<W> Mesh<W> {
+    /// The mesh in these words, whatever stands in them: words that are no mesh
+    /// are refused with 14 by each call but [`format`](Mesh::format) and
+    /// [`build`](Mesh::build).
+    pub fn over(words: W) -> Mesh<W> {
+        Mesh { words }
+    }
+
+    /// The words back.
+    pub fn into_words(self) -> W {
+        self.words
+    }
+}
+
+impl<W: AsMut<[u32]>> Mesh<W> {
+    /// Makes the words a mesh of these capacities with no cell.
+    pub fn format(&mut self, marks: u32, cells: u32) -> Result<(), Refusal> {
+        let words = self.words.as_mut();
+        // SAFETY: the pointer and the count are those of one slice, which is
+        // lent to this call alone.
+        Refusal::from_number(unsafe {
+            calls::mk_format(words.as_mut_ptr(), words.len(), marks, cells)
+        })
+    }
+
+    /// Formats and inserts each record in order: a cell's number, its type's
+    /// code, its marks. A build refused at a record leaves a mesh with no cell.
+    pub fn build(&mut self, marks: u32, cells: u32, records: &[u32]) -> Result<(), BuildRefused> {
+        let words = self.words.as_mut();
+        let mut record = 0;
+        // SAFETY: each pointer and count are those of one slice; the words and
+        // the place are lent to this call alone.
+        Refusal::from_number(unsafe {
+            calls::mk_build(
+                words.as_mut_ptr(),
+                words.len(),
+                marks,
+                cells,
+                records.as_ptr(),
+                records.len(),
+                &mut record,
+            )
+        })
+        .map_err(|refusal| BuildRefused { refusal, record })
+    }
+
+    /// Inserts a cell under a number of the caller's.
+    pub fn insert(
+        &mut self,
+        cell: u32,
+        code: impl Into<u32>,
+        marks: &[u32],
+    ) -> Result<(), Refusal> {
+        let words = self.words.as_mut();
+        // SAFETY: as in `build`.
+        Refusal::from_number(unsafe {
+            calls::mk_insert(
+                words.as_mut_ptr(),
+                words.len(),
+                cell,
+                code.into(),
+                marks.as_ptr(),
+                marks.len(),
+            )
+        })
+    }
+
+    /// Removes a cell.
+    pub fn remove(&mut self, cell: u32) -> Result<(), Refusal> {
+        let words = self.words.as_mut();
+        // SAFETY: as in `format`.
+        Refusal::from_number(unsafe { calls::mk_remove(words.as_mut_ptr(), words.len(), cell) })
+    }
+}
+
+impl<W: AsRef<[u32]>> Mesh<W> {
+    /// The words as they stand.
+    pub fn words(&self) -> &[u32] {
+        self.words.as_ref()
+    }
+
+    /// The code of a cell's type.
+    pub fn type_of(&self, cell: u32) -> Result<u32, Refusal> {
+        // SAFETY: here and in the other queries, each pointer and count are
+        // those of one slice, and what is written is lent to the call alone.
+        self.number(|words, n, code| unsafe { calls::mk_type(words, n, cell, code) })
+    }
+
+    /// The marks of a cell: the very words of the mesh that store them.
+    pub fn marks_of(&self, cell: u32) -> Result<&[u32], Refusal> {
+        let mut count = 0;
+        let at = self
+            .number(|words, n, at| unsafe { calls::mk_marks(words, n, cell, at, &mut count) })?
+            as usize;
+        Ok(&self.words()[at..at + count as usize])
+    }
+
+    /// The next half-facet with the same set of marks.
+    pub fn sibling(&self, cell: u32, facet: u32) -> Result<Half, Refusal> {
+        self.number(|words, n, half| unsafe { calls::mk_sibling(words, n, cell, facet, half) })
+            .map(Half)
+    }
+
+    /// Whether a half-facet is alone in its set.
+    pub fn border(&self, cell: u32, facet: u32) -> Result<bool, Refusal> {
+        self.number(|words, n, yes| unsafe { calls::mk_border(words, n, cell, facet, yes) })
+            .map(|yes| yes == 1)
+    }
+
+    /// The first anchor of a mark in a dimension, if there is one.
+    pub fn first_anchor(&self, dimension: u32, mark: u32) -> Result<Option<Half>, Refusal> {
+        let mut half = 0;
+        let found = self.number(|words, n, found| unsafe {
+            calls::mk_first_anchor(words, n, dimension, mark, found, &mut half)
+        })?;
+        Ok((found == 1).then_some(Half(half)))
+    }
+
+    /// The smallest half-facet with this set of 1 to 3 marks, if there is one.
+    pub fn lookup(&self, set: &[u32]) -> Result<Option<Half>, Refusal> {
+        let mut half = 0;
+        let found = self.number(|words, n, found| unsafe {
+            calls::mk_lookup(words, n, set.as_ptr(), set.len(), found, &mut half)
+        })?;
+        Ok((found == 1).then_some(Half(half)))
+    }
+
+    /// How many live cells a type has.
+    pub fn count(&self, code: impl Into<u32>) -> Result<u32, Refusal> {
+        let code = code.into();
+        self.number(|words, n, count| unsafe { calls::mk_count(words, n, code, count) })
+    }
+
+    /// Whether the words are a well-formed mesh.
+    pub fn whole(&self) -> bool {
+        let words = self.words();
+        unsafe { calls::mk_whole(words.as_ptr(), words.len()) == 1 }
+    }
+
+    /// The cells of a dimension that hold a mark, ascending.
+    pub fn star(&self, dimension: u32, mark: u32) -> Result<Vec<u32>, Refusal> {
+        listed(LONGEST_LIST, |out| self.star_into(dimension, mark, out))
+    }
+
+    /// The star in the first places of `out`; how many they are.
+    pub fn star_into(&self, dimension: u32, mark: u32, out: &mut [u32]) -> Result<usize, Refusal> {
+        self.list(out, |words, n, out, room, count| unsafe {
+            calls::mk_star(words, n, dimension, mark, out, room, count)
+        })
+    }
+
+    /// The anchors of a mark in a dimension, ascending.
+    pub fn anchors(&self, dimension: u32, mark: u32) -> Result<Vec<Half>, Refusal> {
+        listed(LONGEST_LIST, |out| self.anchors_into(dimension, mark, out)).map(halves)
+    }
+
+    /// The numbers of the anchors in the first places of `out`; how many they
+    /// are.
+    pub fn anchors_into(
+        &self,
+        dimension: u32,
+        mark: u32,
+        out: &mut [u32],
+    ) -> Result<usize, Refusal> {
+        self.list(out, |words, n, out, room, count| unsafe {
+            calls::mk_anchors(words, n, dimension, mark, out, room, count)
+        })
+    }
+
+    /// The whole cycle of a half-facet, itself first.
+    pub fn cycle(&self, cell: u32, facet: u32) -> Result<Vec<Half>, Refusal> {
+        listed(LONGEST_LIST, |out| self.cycle_into(cell, facet, out)).map(halves)
+    }
+
+    /// The numbers of the cycle in the first places of `out`; how many they
+    /// are.
+    pub fn cycle_into(&self, cell: u32, facet: u32, out: &mut [u32]) -> Result<usize, Refusal> {
+        self.list(out, |words, n, out, room, count| unsafe {
+            calls::mk_cycle(words, n, cell, facet, out, room, count)
+        })
+    }
+
+    /// The other cells that share a facet with a cell, ascending.
+    pub fn neighbours(&self, cell: u32) -> Result<Vec<u32>, Refusal> {
+        listed(MOST_NEIGHBOURS, |out| self.neighbours_into(cell, out))
+    }
+
+    /// The neighbours in the first places of `out`; how many they are.
+    pub fn neighbours_into(&self, cell: u32, out: &mut [u32]) -> Result<usize, Refusal> {
+        self.list(out, |words, n, out, room, count| unsafe {
+            calls::mk_neighbours(words, n, cell, out, room, count)
+        })
+    }
+
+    /// The live cells of a type, ascending.
+    pub fn cells(&self, code: impl Into<u32>) -> Result<Vec<u32>, Refusal> {
+        let code = code.into();
+        let most = self.count(code)? as usize;
+        listed(most, |out| self.cells_into(code, out))
+    }
+
+    /// The cells of a type in the first places of `out`; how many they are.
+    pub fn cells_into(&self, code: impl Into<u32>, out: &mut [u32]) -> Result<usize, Refusal> {
+        let code = code.into();
+        self.list(out, |words, n, out, room, count| unsafe {
+            calls::mk_cells(words, n, code, out, room, count)
+        })
+    }
+
+    /// A call that gives one number.
+    fn number(&self, call: impl FnOnce(*const u32, usize, &mut u32) -> u8) -> Result<u32, Refusal> {
+        let words = self.words();
+        let mut given = 0;
+        Refusal::from_number(call(words.as_ptr(), words.len(), &mut given))?;
+        Ok(given)
+    }
+
+    /// A call that gives a list.
+    fn list(
+        &self,
+        out: &mut [u32],
+        call: impl FnOnce(*const u32, usize, *mut u32, usize, &mut u32) -> u8,
+    ) -> Result<usize, Refusal> {
+        let (to, room) = (out.as_mut_ptr(), out.len());
+        self.number(|words, n, count| call(words, n, to, room, count))
+            .map(|count| count as usize)
+    }
+}
+
+/// A list of at most so many numbers.
+fn listed(
+    most: usize,
+    fill: impl FnOnce(&mut [u32]) -> Result<usize, Refusal>,
+) -> Result<Vec<u32>, Refusal> {
+    let mut list = vec![0; most];
+    let count = fill(&mut list)?;
+    list.truncate(count);
+    Ok(list)
+}
+
+fn halves(numbers: Vec<u32>) -> Vec<Half> {
+    numbers.into_iter().map(Half).collect()
+}

@@ -1,0 +1,205 @@
+//! What the runs share: numbers by chance, the second program beside the
+//! library, and the map that memory tells.
+#![allow(dead_code)] // each run uses a part
+
+use mengkiloh::{Half, Mesh, Refusal};
+use second::map::{Cell, LiveCell, Mark};
+use second::shapes::type_with_code;
+use second::Memory;
+
+pub const SENTINEL: u32 = 0xdead_beef;
+
+pub struct Chance {
+    state: u64,
+}
+
+impl Chance {
+    pub fn from_seed(seed: u64) -> Chance {
+        Chance { state: seed }
+    }
+
+    /// The next 64 bits (the generator SplitMix64).
+    pub fn bits(&mut self) -> u64 {
+        self.state = self.state.wrapping_add(0x9e37_79b9_7f4a_7c15);
+        let mut bits = self.state;
+        bits = (bits ^ (bits >> 30)).wrapping_mul(0xbf58_476d_1ce4_e5b9);
+        bits = (bits ^ (bits >> 27)).wrapping_mul(0x94d0_49bb_1331_11eb);
+        bits ^ (bits >> 31)
+    }
+
+    /// A number below `end`; 0 where there is none.
+    pub fn below(&mut self, end: u32) -> u32 {
+        (((self.bits() >> 32) * u64::from(end)) >> 32) as u32
+    }
+
+    pub fn shuffle<T>(&mut self, list: &mut [T]) {
+        for last in (1..list.len()).rev() {
+            list.swap(last, self.below(last as u32 + 1) as usize);
+        }
+    }
+}
+
+/// The number of a refusal, 0 for accepted, and the answer's numbers.
+pub type Said = (u8, Vec<u32>);
+
+pub fn ours<T>(answer: Result<T, Refusal>, numbers: impl FnOnce(T) -> Vec<u32>) -> Said {
+    match answer {
+        Ok(value) => (0, numbers(value)),
+        Err(refusal) => (refusal.number(), Vec::new()),
+    }
+}
+
+pub fn theirs<T>(answer: Result<T, second::Refusal>, numbers: impl FnOnce(T) -> Vec<u32>) -> Said {
+    match answer {
+        Ok(value) => (0, numbers(value)),
+        Err(refusal) => (refusal.number(), Vec::new()),
+    }
+}
+
+pub fn numbers(halves: Vec<Half>) -> Vec<u32> {
+    halves.into_iter().map(|half| half.0).collect()
+}
+
+/// A question to a map.
+#[derive(Clone, Debug)]
+pub enum Question {
+    Type(u32),
+    Marks(u32),
+    Neighbours(u32),
+    Sibling(u32, u32),
+    Border(u32, u32),
+    Cycle(u32, u32),
+    Star(u32, u32),
+    Anchors(u32, u32),
+    FirstAnchor(u32, u32),
+    Lookup(Vec<u32>),
+    Cells(u32),
+    Count(u32),
+}
+
+const PLENTY: usize = 70_000;
+
+impl Question {
+    /// One about numbers mostly below these, now and then above.
+    pub fn draw(chance: &mut Chance, marks: u32, cells: u32) -> Question {
+        let cell = chance.below(cells + 1 + cells / 16);
+        let mark = chance.below(marks + 1 + marks / 16);
+        let facet = chance.below(5);
+        let dimension = chance.below(5);
+        let code = chance.below(6);
+        match chance.below(12) {
+            0 => Question::Type(cell),
+            1 => Question::Marks(cell),
+            2 => Question::Neighbours(cell),
+            3 => Question::Sibling(cell, facet),
+            4 => Question::Border(cell, facet),
+            5 => Question::Cycle(cell, facet),
+            6 => Question::Star(dimension, mark),
+            7 => Question::Anchors(dimension, mark),
+            8 => Question::FirstAnchor(dimension, mark),
+            9 => {
+                let size = chance.below(5);
+                Question::Lookup((0..size).map(|_| chance.below(marks + 1)).collect())
+            }
+            10 => Question::Cells(code),
+            _ => Question::Count(code),
+        }
+    }
+
+    /// The lookup of a facet that there is.
+    pub fn of_facet(memory: &Memory, chance: &mut Chance) -> Option<Question> {
+        let live = &memory.mesh.as_ref()?.live;
+        let cell = live.get(chance.below(live.len() as u32) as usize)?;
+        let facets = second::map::half_facets_of(cell);
+        let facet = &facets[chance.below(facets.len() as u32) as usize];
+        Some(Question::Lookup(
+            facet.marks.iter().map(|mark| mark.0).collect(),
+        ))
+    }
+
+    pub fn to_library<W: AsRef<[u32]>>(&self, mesh: &Mesh<W>) -> Said {
+        let one = |number: u32| vec![number];
+        let perhaps = |half: Option<Half>| half.map(|half| half.0).into_iter().collect();
+        match *self {
+            Question::Type(cell) => ours(mesh.type_of(cell), one),
+            Question::Marks(cell) => ours(mesh.marks_of(cell), |marks| marks.to_vec()),
+            Question::Neighbours(cell) => ours(mesh.neighbours(cell), |list| list),
+            Question::Sibling(cell, facet) => ours(mesh.sibling(cell, facet), |half| vec![half.0]),
+            Question::Border(cell, facet) => {
+                ours(mesh.border(cell, facet), |yes| vec![u32::from(yes)])
+            }
+            Question::Cycle(cell, facet) => ours(mesh.cycle(cell, facet), numbers),
+            Question::Star(dimension, mark) => ours(mesh.star(dimension, mark), |list| list),
+            Question::Anchors(dimension, mark) => ours(mesh.anchors(dimension, mark), numbers),
+            Question::FirstAnchor(dimension, mark) => {
+                ours(mesh.first_anchor(dimension, mark), perhaps)
+            }
+            Question::Lookup(ref set) => ours(mesh.lookup(set), perhaps),
+            Question::Cells(code) => ours(mesh.cells(code), |list| list),
+            Question::Count(code) => ours(mesh.count(code), one),
+        }
+    }
+
+    pub fn to_second(&self, memory: &Memory) -> Said {
+        let one = |number: u32| vec![number];
+        let perhaps = |half: Option<u32>| half.into_iter().collect();
+        match *self {
+            Question::Type(cell) => theirs(memory.type_of(cell), one),
+            // marks are refused where the type is
+            Question::Marks(cell) => match memory.type_of(cell) {
+                Ok(_) => (0, memory.marks_of(cell)),
+                Err(refusal) => (refusal.number(), Vec::new()),
+            },
+            Question::Neighbours(cell) => theirs(memory.neighbours(cell, PLENTY), |list| list),
+            Question::Sibling(cell, facet) => theirs(memory.sibling(cell, facet), one),
+            Question::Border(cell, facet) => {
+                theirs(memory.border(cell, facet), |yes| vec![u32::from(yes)])
+            }
+            Question::Cycle(cell, facet) => theirs(memory.cycle(cell, facet, PLENTY), |list| list),
+            Question::Star(dimension, mark) => {
+                theirs(memory.star(dimension, mark, PLENTY), |list| list)
+            }
+            Question::Anchors(dimension, mark) => {
+                theirs(memory.anchors(dimension, mark, PLENTY), |list| list)
+            }
+            Question::FirstAnchor(dimension, mark) => {
+                theirs(memory.first_anchor(dimension, mark), perhaps)
+            }
+            Question::Lookup(ref set) => theirs(memory.lookup(set), perhaps),
+            Question::Cells(code) => theirs(memory.cells_of_type(code, PLENTY), |list| list),
+            Question::Count(code) => theirs(memory.count_of_type(code), |count| vec![count as u32]),
+        }
+    }
+}
+
+/// The map that the records of well-formed memory tell (docs/LAYOUT.md).
+pub fn told(words: &[u32]) -> Memory {
+    let (marks, cells) = (words[1], words[2]);
+    let first = 16 + 8 * marks as usize;
+    let live = (0..cells)
+        .filter_map(|number| {
+            let record = &words[first + 16 * number as usize..][..16];
+            let row = type_with_code(record[0])?;
+            let marks = record[1..=row.marks].iter().map(|&mark| Mark(mark));
+            Some(LiveCell {
+                number: Cell(number),
+                row,
+                marks: marks.collect(),
+            })
+        })
+        .collect();
+    Memory {
+        words: words.len(),
+        mesh: Some(second::Mesh { marks, cells, live }),
+    }
+}
+
+/// The live cells as build records, in this order.
+pub fn records<'a>(cells: impl IntoIterator<Item = &'a LiveCell>) -> Vec<u32> {
+    let mut words = Vec::new();
+    for cell in cells {
+        words.extend([cell.number.0, cell.row.code]);
+        words.extend(cell.marks.iter().map(|mark| mark.0));
+    }
+    words
+}

@@ -1,0 +1,165 @@
+//! Damaged memory into every call: each returns, a refusal changes nothing, no
+//! word beyond the room changes, and where the whole check says yes every
+//! query agrees with the second program over the records.
+//!
+//! MENGKILOH_DAMAGE gives the count of calls, 1,000,000 where it is not set.
+
+mod common;
+
+use common::{told, Chance, Question, SENTINEL};
+use mengkiloh::{room, Mesh};
+
+const MARKS: u32 = 7;
+const CELLS: u32 = 10;
+const PAD: usize = 24;
+
+#[test]
+fn every_call_is_safe_on_damaged_memory() {
+    let calls = std::env::var("MENGKILOH_DAMAGE")
+        .ok()
+        .and_then(|count| count.parse().ok())
+        .unwrap_or(1_000_000_u64);
+    let mut chance = Chance::from_seed(4);
+    let mut made = 0;
+    let (mut whole, mut damaged_whole) = (0, 0);
+    while made < calls {
+        let good = good_memory(&mut chance);
+        for _ in 0..64 {
+            let mut words = good.clone();
+            let damaged = damage(&mut chance, &mut words);
+            for _ in 0..6 {
+                made += one_call(&mut chance, &mut words);
+            }
+            if Mesh::over(&words[..]).whole() {
+                whole += 1;
+                damaged_whole += u64::from(damaged);
+                made += agrees(&mut chance, &words);
+            }
+        }
+    }
+    println!("{made} calls; memory was whole {whole} times, {damaged_whole} after damage");
+    assert!(whole > 0);
+}
+
+/// A small map after some edits, with words behind its room.
+fn good_memory(chance: &mut Chance) -> Vec<u32> {
+    let mut mesh = Mesh::over(vec![SENTINEL; room(MARKS, CELLS) + PAD]);
+    mesh.format(MARKS, CELLS).expect("the room fits");
+    for _ in 0..24 {
+        edit(chance, &mut mesh);
+    }
+    mesh.into_words()
+}
+
+fn edit<W: AsMut<[u32]>>(chance: &mut Chance, mesh: &mut Mesh<W>) -> bool {
+    let cell = chance.below(CELLS + 1);
+    if chance.below(4) == 0 {
+        return mesh.remove(cell).is_ok();
+    }
+    let code = 1 + chance.below(4);
+    let count = [0, 2, 3, 4, 4][code as usize];
+    let marks: Vec<u32> = (0..count).map(|_| chance.below(MARKS)).collect();
+    mesh.insert(cell, code, &marks).is_ok()
+}
+
+/// Whether anything was changed.
+fn damage(chance: &mut Chance, words: &mut Vec<u32>) -> bool {
+    let before = words.clone();
+    let any = |chance: &mut Chance, words: &[u32]| chance.below(words.len() as u32) as usize;
+    match chance.below(9) {
+        0 => {}
+        1 => words.fill(0),
+        2 => words.fill(u32::MAX),
+        3 => words
+            .iter_mut()
+            .for_each(|word| *word = chance.bits() as u32),
+        4 => words.truncate(chance.below(words.len() as u32) as usize),
+        5 => {
+            let at = any(chance, words);
+            words[at] ^= 1 << chance.below(32);
+        }
+        6 => {
+            for _ in 0..1 + chance.below(4) {
+                let at = any(chance, words);
+                words[at] = chance.below(16);
+            }
+        }
+        7 => {
+            let (a, b) = (any(chance, words), any(chance, words));
+            words.swap(a, b);
+        }
+        _ => {
+            // a mesh's head over small numbers: links that lead anywhere
+            for word in &mut words[3..] {
+                *word = chance.below(CELLS + 2);
+            }
+        }
+    }
+    *words != before
+}
+
+/// One or two calls, of any kind.
+fn one_call(chance: &mut Chance, words: &mut Vec<u32>) -> u64 {
+    let before = words.clone();
+    let end = match before.as_slice() {
+        [_, marks @ 0..=65_535, cells @ 0..=65_535, ..] => room(*marks, *cells),
+        _ => usize::MAX,
+    };
+    match chance.below(8) {
+        0 => {
+            let mut mesh = Mesh::over(&mut words[..]);
+            if !edit(chance, &mut mesh) {
+                assert_eq!(*words, before, "a refused edit changes nothing");
+            }
+        }
+        1 => {
+            let (marks, cells) = (chance.below(MARKS + 2), chance.below(CELLS + 2));
+            let formatted = Mesh::over(&mut words[..]).format(marks, cells);
+            match formatted {
+                Ok(()) => assert_eq!(words[room(marks, cells)..], before[room(marks, cells)..]),
+                Err(_) => assert_eq!(*words, before),
+            }
+            *words = before;
+            return 1;
+        }
+        2 => lists_leave_the_rest(chance, words),
+        _ => {
+            let question = Question::draw(chance, MARKS, CELLS);
+            question.to_library(&Mesh::over(&words[..]));
+            assert_eq!(*words, before, "a query changes nothing");
+        }
+    }
+    if end < words.len() {
+        assert_eq!(words[end..], before[end..], "nothing beyond the room");
+    }
+    1
+}
+
+/// A list that is refused leaves the output, one that is given only its first
+/// places.
+fn lists_leave_the_rest(chance: &mut Chance, words: &[u32]) {
+    let mesh = Mesh::over(words);
+    let mut out = [SENTINEL; 40];
+    let room = chance.below(33) as usize;
+    let cell = chance.below(CELLS);
+    let mark = chance.below(MARKS);
+    let answer = match chance.below(5) {
+        0 => mesh.star_into(1 + chance.below(3), mark, &mut out[..room]),
+        1 => mesh.anchors_into(1 + chance.below(3), mark, &mut out[..room]),
+        2 => mesh.cycle_into(cell, chance.below(4), &mut out[..room]),
+        3 => mesh.neighbours_into(cell, &mut out[..room]),
+        _ => mesh.cells_into(1 + chance.below(4), &mut out[..room]),
+    };
+    let given = answer.unwrap_or(0);
+    assert!(given <= room);
+    assert!(out[given..].iter().all(|&word| word == SENTINEL));
+}
+
+fn agrees(chance: &mut Chance, words: &[u32]) -> u64 {
+    let (mesh, second) = (Mesh::over(words), told(words));
+    for _ in 0..4 {
+        let question = Question::draw(chance, MARKS, CELLS);
+        assert_eq!(question.to_library(&mesh), question.to_second(&second));
+    }
+    4
+}

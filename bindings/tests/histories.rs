@@ -1,0 +1,187 @@
+//! Random histories, every answer beside the second program's.
+
+mod common;
+
+use common::{ours, records, theirs, Chance, Question, SENTINEL};
+use mengkiloh::{room, Mesh};
+use second::map::LiveCell;
+use second::Memory;
+
+/// Sentinels before and behind the mesh.
+const PAD: usize = 64;
+
+struct Size {
+    marks: u32,
+    cells: u32,
+    /// Marks are mostly drawn below this: the fewer, the more cells share.
+    pool: u32,
+    edits: u32,
+    questions: u32,
+}
+
+#[test]
+fn at_50_cells() {
+    for seed in 0..40 {
+        let size = Size {
+            marks: 24,
+            cells: 50,
+            pool: 8 + seed as u32 % 16,
+            edits: 300,
+            questions: 12,
+        };
+        history(seed, size);
+    }
+}
+
+#[test]
+fn at_500_cells() {
+    for seed in 100..104 {
+        let size = Size {
+            marks: 200,
+            cells: 500,
+            pool: 120,
+            edits: 1_500,
+            questions: 6,
+        };
+        history(seed, size);
+    }
+}
+
+#[test]
+fn at_5000_cells() {
+    let size = Size {
+        marks: 2_500,
+        cells: 5_000,
+        pool: 2_000,
+        edits: 7_000,
+        questions: 1,
+    };
+    history(200, size);
+}
+
+fn history(seed: u64, size: Size) {
+    let mut chance = Chance::from_seed(seed);
+    let exact = room(size.marks, size.cells);
+    let mut memory = vec![SENTINEL; exact + 2 * PAD];
+    let mut second = Memory::lent(exact);
+    Mesh::over(&mut memory[PAD..PAD + exact])
+        .format(size.marks, size.cells)
+        .expect("the room fits");
+    second
+        .format(size.marks, size.cells)
+        .expect("the room fits");
+    for turn in 0..size.edits {
+        one_edit(&mut chance, &size, &mut memory, &mut second);
+        assert!(memory[..PAD].iter().all(|&word| word == SENTINEL));
+        assert!(memory[PAD + exact..].iter().all(|&word| word == SENTINEL));
+        let words = &memory[PAD..PAD + exact];
+        for _ in 0..size.questions {
+            ask(&mut chance, &size, words, &second);
+        }
+        if turn % (size.edits / 4) == size.edits / 4 - 1 {
+            afresh(&mut chance, &size, words, &second);
+        }
+    }
+}
+
+fn one_edit(chance: &mut Chance, size: &Size, memory: &mut [u32], second: &mut Memory) {
+    let exact = room(size.marks, size.cells);
+    let before = memory.to_vec();
+    let cell = chance.below(size.cells + 1 + size.cells / 50);
+    let removed = live_cell(second, cell).cloned();
+    let mut mesh = Mesh::over(&mut memory[PAD..PAD + exact]);
+    let (answer, expected, touched) = if chance.below(8) < 3 {
+        let touched: Vec<u32> = removed
+            .iter()
+            .flat_map(|cell| cell.marks.iter().map(|mark| mark.0))
+            .collect();
+        let expected = theirs(second.remove(cell), |()| vec![]);
+        (ours(mesh.remove(cell), |()| vec![]), expected, touched)
+    } else {
+        let code = match chance.below(40) {
+            0 => chance.below(7),
+            _ => 1 + chance.below(4),
+        };
+        let count = match chance.below(40) {
+            0 => chance.below(6),
+            _ => [0, 2, 3, 4, 4, 3, 3][code as usize],
+        };
+        let marks: Vec<u32> = (0..count).map(|_| draw_mark(chance, size)).collect();
+        let expected = theirs(second.insert(cell, code, &marks), |()| vec![]);
+        let answer = ours(mesh.insert(cell, code, &marks), |()| vec![]);
+        (answer, expected, marks)
+    };
+    assert_eq!(answer, expected);
+    if answer.0 != 0 {
+        assert_eq!(memory, before, "a refused edit changes nothing");
+        return;
+    }
+    let changed: Vec<usize> = (0..exact)
+        .filter(|&word| memory[PAD + word] != before[PAD + word])
+        .collect();
+    for word in changed {
+        assert!(
+            may_change(size, second, cell, &touched, word),
+            "word {word} is of no record that the edit is about"
+        );
+    }
+}
+
+fn draw_mark(chance: &mut Chance, size: &Size) -> u32 {
+    match chance.below(80) {
+        0 => chance.below(size.marks + 2),
+        _ => chance.below(size.pool),
+    }
+}
+
+fn live_cell(second: &Memory, cell: u32) -> Option<&LiveCell> {
+    let live = &second.mesh.as_ref()?.live;
+    second::map::live_cell(live, second::map::Cell(cell))
+}
+
+/// The head, the records of the edited cell and its marks, and those of the
+/// cells that share a mark with it.
+fn may_change(size: &Size, second: &Memory, edited: u32, touched: &[u32], word: usize) -> bool {
+    let first_cell = 16 + 8 * size.marks as usize;
+    let second_part = first_cell + 16 * size.cells as usize;
+    if word < 16 {
+        return true;
+    }
+    if word < first_cell {
+        return touched.contains(&((word as u32 - 16) / 8));
+    }
+    if word >= second_part {
+        return false;
+    }
+    let cell = ((word - first_cell) / 16) as u32;
+    cell == edited
+        || live_cell(second, cell)
+            .is_some_and(|cell| cell.marks.iter().any(|mark| touched.contains(&mark.0)))
+}
+
+fn ask(chance: &mut Chance, size: &Size, words: &[u32], second: &Memory) {
+    let question = match chance.below(6) {
+        0 => Question::of_facet(second, chance),
+        _ => None,
+    };
+    let question = question.unwrap_or_else(|| Question::draw(chance, size.marks, size.cells));
+    let mesh = Mesh::over(words);
+    let (ours, theirs) = (question.to_library(&mesh), question.to_second(second));
+    assert_eq!(ours, theirs, "{question:?}");
+}
+
+/// "The evening's lists the afternoon's": a build of the live cells in any
+/// order is the same memory, word for word.
+fn afresh(chance: &mut Chance, size: &Size, words: &[u32], second: &Memory) {
+    assert!(Mesh::over(words).whole());
+    let mut live: Vec<&LiveCell> = second
+        .mesh
+        .iter()
+        .flat_map(|mesh| mesh.live.iter())
+        .collect();
+    chance.shuffle(&mut live);
+    let mut built = Mesh::over(vec![chance.bits() as u32; words.len()]);
+    let answer = built.build(size.marks, size.cells, &records(live));
+    assert_eq!(answer, Ok(()));
+    assert_eq!(built.words(), words);
+}

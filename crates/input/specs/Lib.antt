@@ -1,0 +1,3 @@
+pub mod Standing
+pub mod Fed
+pub mod Run

@@ -1,0 +1,5 @@
+-- From the promises of the public calls to the same told by numbers.
+pub mod Plain
+pub mod Queries
+pub mod Places
+pub mod Edits

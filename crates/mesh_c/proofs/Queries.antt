@@ -1,0 +1,67 @@
+-- From a query's promise, and its answer told, to the promise told by numbers.
+use mathlib.Core.Path.{_≡_, refl, ap, _∙_}
+use mathlib.Core.Bool.{Bool, true, false}
+use mathlib.Core.List.{List}
+use Prim.Native.Nat.{ℕ}
+use native.Mathlib.Omega.{arith}
+use borrow.Author.Tests.{eq-eqb, ne-eqb}
+use lib.ListN.{length}
+use Rattle.lists.specs.Lists.{first}
+use Rattle.map.specs.Cells.{Map}
+use Rattle.map.specs.Answers.{Check, Answer, listAnswer}
+use Rattle.map.specs.Paper.{given, refused, valueSays, foundSays}
+use Rattle.map.specs.declared.Value.{Value}
+use Rattle.map.specs.declared.Value.the-variants as Value′
+use Rattle.map.specs.declared.Found.{Found}
+use Rattle.ask.specs.Asked.{Asked}
+use Rattle.ask.specs.Refusals.{noValue, noFound}
+use Rattle.listing.specs.Listing.{Listing}
+use Rattle.whole.specs.Whole.{Whole}
+use Rattle.tell.specs.Told.{Told, ToldFound}
+use Rattle.mesh_c.specs.Answered.{Answered, Sought, Listed, Judged}
+use Rattle.mesh_c.proofs.Plain.{Plain, value-plain, found-plain}
+
+-- one number, whatever the kind of answer
+pub answered : {A : Type 0} {says : A → Answer} {noMesh : A} → Plain says noMesh
+    → (w : List ℕ) (answer : Map → Answer) (a : A) → Asked says noMesh w answer a → (x r x′ : ℕ) → Told (says a) x r x′ → Answered w answer x r x′
+unfolding first
+answered {says = says} plain w answer a asked x r x′ told = record {
+  refused = λ none. told .number ∙ (ap (λ z. says z .refusal) (asked .refused none) ∙ plain .fourteen);
+  kept = λ some. told .value ∙ ap (first x) (plain .quiet a (λ z. some (told .number ∙ z)));
+  answers = λ m wf. record {
+    number = told .number ∙ ap (λ (z : Answer). z .refusal) (asked .answers m wf);
+    value = told .value ∙ ap (λ (z : Answer). first x (z .values)) (asked .answers m wf);
+  };
+}
+
+pub sought : (w : List ℕ) (answer : Map → Answer) (a : Found) → Asked foundSays noFound w answer a
+    → (y x r y′ x′ : ℕ) → ToldFound (foundSays a) y x r y′ x′ → Sought w answer y x r y′ x′
+sought w answer a asked y x r y′ x′ t = record {
+  half = answered found-plain w answer a asked x r x′ (t .told);
+  kept = λ some. t .found ∙ rw (ne-eqb r 0 some);
+  found = λ m wf z. t .found ∙ rw (eq-eqb r 0 z) (ap (λ (b : Answer). length (b .values)) (asked .answers m wf));
+}
+
+module _ (w : List ℕ) (checks : Map → List Check) (list : Map → List ℕ) (o o′ : List ℕ) where
+  list-asked : (a : Value) → Listing w checks list o a o′ → Asked valueSays noValue w (λ m. listAnswer (checks m) (list m) (length o)) a
+  list-asked a l = record { refused = l .refused; answers = λ m wf. l .answers m wf .0 }
+
+  -- told of a refusal, the output is as it was
+  list-kept : (a : Value) → Listing w checks list o a o′ → (r : ℕ) → r ≡ valueSays a .refusal → (r ≡ 0 → ⊥) → o′ ≡ o
+  unfolding valueSays given
+  list-kept (Value′.Is n) l r e some = absurd (some e)
+  list-kept (Value′.Refused why) l r e some = l .kept why refl
+
+  pub listed-out : (a : Value) → Listing w checks list o a o′ → (n r n′ : ℕ) → Told (valueSays a) n r n′ → Listed w checks list o n r o′ n′
+  listed-out a l n r n′ told = record {
+    count = answered value-plain w (λ m. listAnswer (checks m) (list m) (length o)) a (list-asked a l) n r n′ told;
+    kept = list-kept a l r (told .number);
+    places = λ m wf. l .answers m wf .1;
+  }
+
+-- the whole check
+pub judged-yes : (w : List ℕ) (b : Bool) → Whole w b → b ≡ true → Judged w 1
+judged-yes w b h e = record { bit = omega arith; yes = λ _. h .yes e; no = λ z. absurd (omega arith) }
+
+pub judged-no : (w : List ℕ) (b : Bool) → Whole w b → b ≡ false → Judged w 0
+judged-no w b h e = record { bit = omega arith; yes = λ z. absurd (omega arith); no = λ _. h .no e }

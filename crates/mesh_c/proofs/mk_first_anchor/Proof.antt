@@ -1,0 +1,17 @@
+-- `mesh_c::mk_first_anchor` meets its contract.
+use Rattle.mesh_c.proofs.Queries.{sought}
+use borrow.Author.Needs.{needs}
+use Rattle.mesh_c.proofs.mk_first_anchor.Statement.{statement}
+use Rattle.mesh_c.proofs.mk_first_anchor.Tie as tie
+
+first-anchor-requires : tie.Need-first-anchor-requires
+first-anchor-requires c κs = search needs
+
+tell-found-requires : tie.Need-tell-found-requires
+tell-found-requires c κs = search needs
+
+returns : tie.Need-returns
+returns c = sought _ _ _ (c .before .before .before .first-anchor .ensures) _ _ _ _ _ (c .tell-found .ensures)
+
+pub mk-first-anchor-spec : {M : Type 1} → statement M
+mk-first-anchor-spec = tie.close (tie.spec first-anchor-requires tell-found-requires returns)

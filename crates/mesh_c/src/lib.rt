@@ -1,0 +1,222 @@
+// The calls of the mesh for programs in C and other languages (include/mengkiloh.h).
+//
+// What is here: a function for each public call, under its plain name, none with a `requires`. Each answers the refusal's number, 0 for
+// accepted, and gives its values through lent words. What is proved: the promise of the call it stands for, told by numbers; a refusal
+// leaves what was lent as it was, on any memory (specs/Answered.antt, specs/Changed.antt). What a caller should know: a list is a pointer
+// and a count of 32-bit words, aligned to 4 bytes; no two lent places may overlap.
+ghost use Rattle.numbers.specs.Half.{halfOf};
+ghost use Rattle.map.specs.Answers.{cellChecks, halfChecks, starChecks, typeChecks, typeAnswer, siblingAnswer, borderAnswer, firstAnchorAnswer, lookupAnswer, countAnswer};
+ghost use Rattle.map.specs.Cells.{cellsOf, neighbours};
+ghost use Rattle.map.specs.Siblings.{cycle};
+ghost use Rattle.map.specs.Stars.{star, anchors};
+ghost use Rattle.map.specs.History.{Insert, Remove};
+ghost use Rattle.mesh_c.specs.Answered.{Answered, Sought, Listed, MarksAt, Judged};
+ghost use Rattle.mesh_c.specs.Changed.{Emptied, Raised, Changed};
+use ask::border;
+use ask::count_of_type;
+use ask::first_anchor;
+use ask::sibling;
+use ask::type_of;
+use build::build;
+use format::format;
+use listing::anchors;
+use listing::cells_of_type;
+use listing::cycle;
+use listing::lookup;
+use listing::neighbours;
+use listing::star;
+use map::Refusal;
+use map::Value;
+use mesh::insert;
+use mesh::remove;
+use numbers::Cell;
+use numbers::Mark;
+use shapes::mark_count;
+use tell::byte_of;
+use tell::tell_built;
+use tell::tell_found;
+use tell::tell_half;
+use tell::tell_truth;
+use tell::tell_value;
+use tell::tell_verdict;
+use whole::whole;
+use words::word;
+
+// A mesh of these capacities with no live cell.
+#[no_mangle]
+pub extern "C" fn mk_format(mesh: &mut [u32], marks: u32, cells: u32) -> u8
+    ensures { λ r. ⌜ Emptied (now (mesh .entry)) marks cells r (now (mesh .exit)) ⌝ }
+{
+    tell_verdict(format(mesh, marks, cells))
+}
+
+// A mesh of these capacities with the cells of the records; where a record is refused, its place.
+#[no_mangle]
+pub extern "C" fn mk_build(
+    mesh: &mut [u32],
+    marks: u32,
+    cells: u32,
+    records: &[u32],
+    place: &mut u32,
+) -> u8
+    ensures { λ r. ⌜ Raised (now (mesh .entry)) marks cells (now (records .entry)) (now (place .entry)) r (now (mesh .exit)) (now (place .exit)) ⌝ }
+{
+    tell_built(build(mesh, marks, cells, records), place)
+}
+
+// A cell of the caller's number, of a type, on marks.
+#[no_mangle]
+pub extern "C" fn mk_insert(mesh: &mut [u32], cell: u32, code: u32, marks: &[u32]) -> u8
+    ensures { λ r. ⌜ Changed (now (mesh .entry)) (Insert cell code (now (marks .entry))) r (now (mesh .exit)) ⌝ }
+{
+    tell_verdict(insert(mesh, Cell(cell), code, marks))
+}
+
+// The cell of that number taken out.
+#[no_mangle]
+pub extern "C" fn mk_remove(mesh: &mut [u32], cell: u32) -> u8
+    ensures { λ r. ⌜ Changed (now (mesh .entry)) (Remove cell) r (now (mesh .exit)) ⌝ }
+{
+    tell_verdict(remove(mesh, Cell(cell)))
+}
+
+// The type of a cell.
+#[no_mangle]
+pub extern "C" fn mk_type(mesh: &[u32], cell: u32, code: &mut u32) -> u8
+    ensures { λ r. ⌜ Answered (now (mesh .entry)) (λ m. typeAnswer m cell) (now (code .entry)) r (now (code .exit)) ⌝ }
+{
+    tell_value(type_of(mesh, Cell(cell)), code)
+}
+
+// Where in memory the marks of a cell stand, and how many there are.
+#[no_mangle]
+pub extern "C" fn mk_marks(mesh: &[u32], cell: u32, at: &mut u32, count: &mut u32) -> u8
+    ensures { λ r. ⌜ MarksAt (now (mesh .entry)) cell (now (at .entry)) (now (count .entry)) r (now (at .exit)) (now (count .exit)) ⌝ }
+{
+    match type_of(mesh, Cell(cell)) {
+        Value::Refused(why) => byte_of(why),
+        Value::Is(code) => {
+            let marks = word(mesh, 1);
+            let n = mark_count(code);
+            let place = 16 + 8 * (marks as usize) + 16 * (cell as usize) + 1;
+            if mesh.len() < place + n as usize {
+                return byte_of(Refusal::NotMesh);
+            }
+            *at = (place % 4294967296) as u32;
+            *count = n;
+            0
+        }
+    }
+}
+
+// The sibling of a half-facet.
+#[no_mangle]
+pub extern "C" fn mk_sibling(mesh: &[u32], cell: u32, facet: u32, half: &mut u32) -> u8
+    ensures { λ r. ⌜ Answered (now (mesh .entry)) (λ m. siblingAnswer m cell facet) (now (half .entry)) r (now (half .exit)) ⌝ }
+{
+    tell_half(sibling(mesh, Cell(cell), facet), half)
+}
+
+// The whole cycle of a half-facet, from it on.
+#[no_mangle]
+pub extern "C" fn mk_cycle(
+    mesh: &[u32],
+    cell: u32,
+    facet: u32,
+    out: &mut [u32],
+    count: &mut u32,
+) -> u8
+    ensures { λ r. ⌜ Listed (now (mesh .entry)) (λ m. halfChecks m cell facet) (λ m. cycle m (halfOf cell facet)) (now (out .entry)) (now (count .entry)) r (now (out .exit)) (now (count .exit)) ⌝ }
+{
+    tell_value(cycle(mesh, Cell(cell), facet, out), count)
+}
+
+// Whether a half-facet is alone in its set: 1 or 0.
+#[no_mangle]
+pub extern "C" fn mk_border(mesh: &[u32], cell: u32, facet: u32, yes: &mut u32) -> u8
+    ensures { λ r. ⌜ Answered (now (mesh .entry)) (λ m. borderAnswer m cell facet) (now (yes .entry)) r (now (yes .exit)) ⌝ }
+{
+    tell_truth(border(mesh, Cell(cell), facet), yes)
+}
+
+// The star of a mark in a dimension.
+#[no_mangle]
+pub extern "C" fn mk_star(
+    mesh: &[u32],
+    dimension: u32,
+    mark: u32,
+    out: &mut [u32],
+    count: &mut u32,
+) -> u8
+    ensures { λ r. ⌜ Listed (now (mesh .entry)) (λ m. starChecks m dimension mark) (λ m. star m dimension mark) (now (out .entry)) (now (count .entry)) r (now (out .exit)) (now (count .exit)) ⌝ }
+{
+    tell_value(star(mesh, dimension, Mark(mark), out), count)
+}
+
+// The anchors of a mark in a dimension.
+#[no_mangle]
+pub extern "C" fn mk_anchors(
+    mesh: &[u32],
+    dimension: u32,
+    mark: u32,
+    out: &mut [u32],
+    count: &mut u32,
+) -> u8
+    ensures { λ r. ⌜ Listed (now (mesh .entry)) (λ m. starChecks m dimension mark) (λ m. anchors m dimension mark) (now (out .entry)) (now (count .entry)) r (now (out .exit)) (now (count .exit)) ⌝ }
+{
+    tell_value(anchors(mesh, dimension, Mark(mark), out), count)
+}
+
+// The first anchor of a mark in a dimension, if there is one.
+#[no_mangle]
+pub extern "C" fn mk_first_anchor(
+    mesh: &[u32],
+    dimension: u32,
+    mark: u32,
+    found: &mut u32,
+    half: &mut u32,
+) -> u8
+    ensures { λ r. ⌜ Sought (now (mesh .entry)) (λ m. firstAnchorAnswer m dimension mark) (now (found .entry)) (now (half .entry)) r (now (found .exit)) (now (half .exit)) ⌝ }
+{
+    tell_found(first_anchor(mesh, dimension, Mark(mark)), found, half)
+}
+
+// The other live cells that share a facet with the cell.
+#[no_mangle]
+pub extern "C" fn mk_neighbours(mesh: &[u32], cell: u32, out: &mut [u32], count: &mut u32) -> u8
+    ensures { λ r. ⌜ Listed (now (mesh .entry)) (λ m. cellChecks m cell) (λ m. neighbours m cell) (now (out .entry)) (now (count .entry)) r (now (out .exit)) (now (count .exit)) ⌝ }
+{
+    tell_value(neighbours(mesh, Cell(cell), out), count)
+}
+
+// The smallest half-facet with a set of marks, if there is one.
+#[no_mangle]
+pub extern "C" fn mk_lookup(mesh: &[u32], set: &[u32], found: &mut u32, half: &mut u32) -> u8
+    ensures { λ r. ⌜ Sought (now (mesh .entry)) (λ m. lookupAnswer m (now (set .entry))) (now (found .entry)) (now (half .entry)) r (now (found .exit)) (now (half .exit)) ⌝ }
+{
+    tell_found(lookup(mesh, set), found, half)
+}
+
+// The live cells of a type.
+#[no_mangle]
+pub extern "C" fn mk_cells(mesh: &[u32], code: u32, out: &mut [u32], count: &mut u32) -> u8
+    ensures { λ r. ⌜ Listed (now (mesh .entry)) (λ m. typeChecks code) (λ m. cellsOf m code) (now (out .entry)) (now (count .entry)) r (now (out .exit)) (now (count .exit)) ⌝ }
+{
+    tell_value(cells_of_type(mesh, code, out), count)
+}
+
+// The count of live cells of a type.
+#[no_mangle]
+pub extern "C" fn mk_count(mesh: &[u32], code: u32, count: &mut u32) -> u8
+    ensures { λ r. ⌜ Answered (now (mesh .entry)) (λ m. countAnswer m code) (now (count .entry)) r (now (count .exit)) ⌝ }
+{
+    tell_value(count_of_type(mesh, code), count)
+}
+
+// The whole check: 1 for yes, 0 for no.
+#[no_mangle]
+pub extern "C" fn mk_whole(mesh: &[u32]) -> u8
+    ensures { λ r. ⌜ Judged (now (mesh .entry)) r ⌝ }
+{
+    if whole(mesh) { 1 } else { 0 }
+}

@@ -1,0 +1,5 @@
+-- The laws of an answer.
+pub mod Few
+pub mod Answered
+pub mod Obeys
+pub mod Cut

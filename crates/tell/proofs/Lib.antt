@@ -1,0 +1,2 @@
+-- The laws of answers told by numbers.
+pub mod Tells

@@ -1,0 +1,26 @@
+-- `tell::tell_built` meets its contract.
+use Rattle.tell.proofs.Tells.{told-none, built-refused}
+use Rattle.map.specs.Paper.{builtSays}
+use mathlib.Core.Path.{ap}
+use borrow.Author.Needs.{needs}
+use Rattle.tell.proofs.tell_built.Statement.{statement}
+use Rattle.tell.proofs.tell_built.Tie as tie
+
+enum-told : tie.Need-enum-told
+enum-told c = search needs
+
+enum-known-b : tie.Need-enum-known-b
+enum-known-b c = search needs
+
+byte-of-requires : tie.Need-byte-of-requires
+byte-of-requires c κs = search needs
+
+returns : tie.Need-returns
+unfolding builtSays
+returns c = told-none _ _ (ap builtSays (c .enum-told .given .1))
+
+returns-2 : tie.Need-returns-2
+returns-2 c = built-refused _ _ _ _ _ (c .before .before .b .given .1) (c .byte-of .ensures)
+
+pub tell-built-spec : {M : Type 1} → statement M
+tell-built-spec = tie.close (tie.spec enum-told enum-known-b byte-of-requires returns returns-2)

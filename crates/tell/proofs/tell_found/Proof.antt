@@ -1,0 +1,36 @@
+-- `tell::tell_found` meets its contract.
+use Rattle.tell.proofs.Tells.{found-given, found-none, found-refused}
+use Rattle.map.specs.Paper.{foundSays}
+use mathlib.Core.Path.{ap}
+use borrow.Author.Needs.{needs}
+use Rattle.tell.proofs.tell_found.Statement.{statement}
+use Rattle.tell.proofs.tell_found.Tie as tie
+
+enum-known-f : tie.Need-enum-known-f
+enum-known-f c = search needs
+
+byte-of-requires : tie.Need-byte-of-requires
+byte-of-requires c κs = search needs
+
+enum-told : tie.Need-enum-told
+enum-told c = search needs
+
+enum-known-f-2 : tie.Need-enum-known-f-2
+enum-known-f-2 c = search needs
+
+returns : tie.Need-returns
+unfolding foundSays
+returns c = found-refused _ _ _ _ _ (ap foundSays (c .before .before .f .given .1)) (c .byte-of .ensures)
+
+returns-2 : tie.Need-returns-2
+unfolding foundSays
+returns-2 c = found-none _ _ _ (ap foundSays (c .enum-told .given .1))
+
+returns-3 : tie.Need-returns-3
+unfolding foundSays
+returns-3 c = found-given _ _ _ _ (ap foundSays (c .before .f2 .given .1))
+
+pub tell-found-spec : {M : Type 1} → statement M
+tell-found-spec =
+    tie.close
+    (tie.spec enum-known-f byte-of-requires enum-told enum-known-f-2 returns returns-2 returns-3)

@@ -1,0 +1,36 @@
+-- `tell::tell_truth` meets its contract.
+use Rattle.tell.proofs.Tells.{told-given, told-refused}
+use Rattle.map.specs.Paper.{truthSays}
+use mathlib.Core.Path.{ap}
+use borrow.Author.Needs.{needs}
+use Rattle.tell.proofs.tell_truth.Statement.{statement}
+use Rattle.tell.proofs.tell_truth.Tie as tie
+
+enum-known-t : tie.Need-enum-known-t
+enum-known-t c = search needs
+
+byte-of-requires : tie.Need-byte-of-requires
+byte-of-requires c κs = search needs
+
+enum-told : tie.Need-enum-told
+enum-told c = search needs
+
+enum-told-2 : tie.Need-enum-told-2
+enum-told-2 c = search needs
+
+returns : tie.Need-returns
+unfolding truthSays
+returns c = told-refused _ _ _ _ (ap truthSays (c .before .before .t .given .1)) (c .byte-of .ensures)
+
+returns-2 : tie.Need-returns-2
+unfolding truthSays
+returns-2 c = told-given _ _ _ (ap truthSays (c .enum-told .given .1))
+
+returns-3 : tie.Need-returns-3
+unfolding truthSays
+returns-3 c = told-given _ _ _ (ap truthSays (c .enum-told2 .given .1))
+
+pub tell-truth-spec : {M : Type 1} → statement M
+tell-truth-spec =
+    tie.close
+    (tie.spec enum-known-t byte-of-requires enum-told enum-told-2 returns returns-2 returns-3)

@@ -1,0 +1,67 @@
+/* A complaint, start to end, from C: a viaduct over a hillside, the cells around a mark, one removed, the cells again.
+ *
+ *     cc -Iinclude examples/complaint.c libmesh_c.a -o complaint
+ */
+#include "mengkiloh.h"
+
+#include <inttypes.h>
+#include <stdio.h>
+#include <stdlib.h>
+
+enum { MARKS = 9, CELLS = 8, LONGEST_LIST = 128 };
+
+static uint32_t words[MK_ROOM(MARKS, CELLS)];
+
+static void must(uint8_t refusal)
+{
+    if (refusal != 0) {
+        fprintf(stderr, "refused with %d\n", refusal);
+        exit(EXIT_FAILURE);
+    }
+}
+
+static void insert(uint32_t cell, uint32_t type, const uint32_t *marks, size_t count)
+{
+    must(mk_insert(words, MK_ROOM(MARKS, CELLS), cell, type, marks, count));
+}
+
+static void tell(uint32_t mark)
+{
+    uint32_t list[LONGEST_LIST];
+    uint32_t count = 0;
+    for (uint32_t dimension = 1; dimension <= 3; dimension++) {
+        must(mk_star(words, MK_ROOM(MARKS, CELLS), dimension, mark, list, LONGEST_LIST, &count));
+        printf("mark %" PRIu32 ", dimension %" PRIu32 ": cells [", mark, dimension);
+        for (uint32_t i = 0; i < count; i++) {
+            printf("%s%" PRIu32, i == 0 ? "" : ", ", list[i]);
+        }
+        printf("]\n");
+    }
+    must(mk_anchors(words, MK_ROOM(MARKS, CELLS), 2, mark, list, LONGEST_LIST, &count));
+    for (uint32_t i = 0; i < count; i++) {
+        printf("a sheet begins at cell %" PRIu32 ", facet %" PRIu32 "\n", list[i] / 8, list[i] % 8);
+    }
+}
+
+int main(void)
+{
+    must(mk_format(words, MK_ROOM(MARKS, CELLS), MARKS, CELLS));
+    insert(0, MK_TRI_3, (const uint32_t[]){0, 1, 2}, 3);
+    insert(1, MK_TRI_3, (const uint32_t[]){1, 3, 2}, 3);
+    insert(2, MK_TRI_3, (const uint32_t[]){2, 4, 5}, 3);
+    insert(3, MK_QUAD_4, (const uint32_t[]){1, 2, 6, 7}, 4);
+    insert(4, MK_BAR_2, (const uint32_t[]){2, 8}, 2);
+
+    tell(2);
+    printf("cell 1 is taken down\n");
+    must(mk_remove(words, MK_ROOM(MARKS, CELLS), 1));
+    tell(2);
+
+    uint8_t refusal = mk_insert(words, MK_ROOM(MARKS, CELLS), 5, MK_TRI_3, (const uint32_t[]){2, 0, 1}, 3);
+    if (refusal == 0) {
+        printf("cell 5 stands\n");
+    } else {
+        printf("cell 5 is refused with %d\n", refusal);
+    }
+    return 0;
+}

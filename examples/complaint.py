@@ -1,0 +1,95 @@
+#!/usr/bin/env python3
+"""A complaint, start to end, from Python: a viaduct over a hillside, the cells
+around a mark, one removed, the cells again.
+
+usage: complaint.py LIBRARY
+LIBRARY is the proved library as a shared library, as README.md makes it.
+"""
+import ctypes
+import sys
+
+BAR, TRIANGLE, QUAD, TETRAHEDRON = 1, 2, 3, 4
+LONGEST_LIST = 128
+
+
+class Refused(Exception):
+    """A call was refused; the number says why (include/mengkiloh.h)."""
+
+    def __init__(self, number):
+        super().__init__(f"refused with {number}")
+        self.number = number
+
+
+class Map:
+    """Marks and cells in words of its own."""
+
+    def __init__(self, library, marks, cells):
+        self.calls = library
+        self.words = (ctypes.c_uint32 * (16 + 8 * marks + 32 * cells))()
+        self._call("mk_format", ctypes.c_uint32(marks), ctypes.c_uint32(cells))
+
+    def insert(self, cell, code, marks):
+        list_ = (ctypes.c_uint32 * len(marks))(*marks)
+        self._call(
+            "mk_insert",
+            ctypes.c_uint32(cell),
+            ctypes.c_uint32(code),
+            list_,
+            ctypes.c_size_t(len(marks)),
+        )
+
+    def remove(self, cell):
+        self._call("mk_remove", ctypes.c_uint32(cell))
+
+    def star(self, dimension, mark):
+        return self._list("mk_star", dimension, mark)
+
+    def anchors(self, dimension, mark):
+        return [(half // 8, half % 8) for half in self._list("mk_anchors", dimension, mark)]
+
+    def _list(self, name, *numbers):
+        out = (ctypes.c_uint32 * LONGEST_LIST)()
+        count = ctypes.c_uint32()
+        given = [ctypes.c_uint32(number) for number in numbers]
+        self._call(name, *given, out, ctypes.c_size_t(LONGEST_LIST), ctypes.byref(count))
+        return list(out[: count.value])
+
+    def _call(self, name, *rest):
+        call = getattr(self.calls, name)
+        call.restype = ctypes.c_uint8
+        number = call(self.words, ctypes.c_size_t(len(self.words)), *rest)
+        if number:
+            raise Refused(number)
+
+
+def tell(map_, mark):
+    for dimension in (1, 2, 3):
+        print(f"mark {mark}, dimension {dimension}: cells {map_.star(dimension, mark)}")
+    for cell, facet in map_.anchors(2, mark):
+        print(f"a sheet begins at cell {cell}, facet {facet}")
+
+
+def main():
+    if len(sys.argv) != 2:
+        sys.exit(__doc__)
+    map_ = Map(ctypes.CDLL(sys.argv[1]), 9, 8)
+    map_.insert(0, TRIANGLE, [0, 1, 2])
+    map_.insert(1, TRIANGLE, [1, 3, 2])
+    map_.insert(2, TRIANGLE, [2, 4, 5])
+    map_.insert(3, QUAD, [1, 2, 6, 7])
+    map_.insert(4, BAR, [2, 8])
+
+    tell(map_, 2)
+    print("cell 1 is taken down")
+    map_.remove(1)
+    tell(map_, 2)
+
+    try:
+        map_.insert(5, TRIANGLE, [2, 0, 1])
+        print("cell 5 stands")
+    except Refused as refused:
+        print(f"cell 5 is {refused}")
+
+
+if __name__ == "__main__":
+    main()

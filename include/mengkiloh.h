@@ -1,0 +1,175 @@
+/*
+ * Mengkiloh: the map of survey marks and cells, for programs in C and C++.
+ *
+ * The library is built by `rt staticlib mesh_c` (target/staticlib/libmesh_c.a). Every function is
+ * proved to meet its promise (crates/mesh_c/specs); none allocates, and none keeps anything between
+ * calls: all of a mesh stands in the words that the caller lends.
+ *
+ * Every call but mk_whole answers a refusal number: 0 if it is accepted, else why it is refused
+ * (enum mk_refusal). Values come through pointers, and only where the call is accepted: a refused
+ * call leaves everything that was lent as it was. The one exception is mk_build.
+ *
+ * A list is a pointer and a count of 32-bit words. A list's pointer and the pointer of a single
+ * number are aligned to 4 bytes and not null; that of an empty list may be anything. What a call
+ * writes must not overlap anything else that is lent to the same call. Places that a call only
+ * reads (those marked const) may overlap each other.
+ *
+ * Any memory may be lent as a mesh. On words that are no well-formed mesh a call is safe and
+ * returns, and writes within the room alone; what it answers is promised only for
+ *   - memory under 16 words, or whose head gives no capacities or ones whose room does not fit:
+ *     refused with MK_NOT_MESH, save by mk_format and mk_build, which ask for no mesh;
+ *   - memory that mk_whole says yes to, and so all that these calls leave, from a format or build on.
+ */
+#ifndef MENGKILOH_H
+#define MENGKILOH_H
+
+#include <stddef.h>
+#include <stdint.h>
+
+#ifdef __cplusplus
+extern "C" {
+#endif
+
+/* Why a call is refused. Checks run in the order that each call lists. */
+enum mk_refusal {
+    MK_ACCEPTED = 0,
+    MK_CAPACITY_ABOVE = 1, /* a capacity is above 65,535 */
+    MK_MEMORY_SHORT = 2,   /* at format or build, memory is shorter than the room */
+    MK_CELL_OUTSIDE = 3,   /* a cell number is not below the capacity */
+    MK_CELL_LIVE = 4,      /* insert: the number is live */
+    MK_CELL_NOT_LIVE = 5,  /* the cell is not live */
+    MK_TYPE_UNKNOWN = 6,   /* type code not in the table, or dimension not 1 to 3 */
+    MK_COUNT_WRONG = 7,    /* wrong count of marks for the type or the lookup, or a build record cut short */
+    MK_MARK_OUTSIDE = 8,   /* a mark is not below the capacity */
+    MK_MARK_TWICE = 9,     /* a mark occurs twice */
+    MK_CELL_SAME = 10,     /* a live cell of that type has the same set of marks */
+    MK_MARK_FULL = 11,     /* one of the marks stands in 128 live cells already */
+    MK_OUTPUT_SHORT = 12,  /* output buffer shorter than the list */
+    MK_FACET_OUTSIDE = 13, /* local facet not below the type's count */
+    MK_NOT_MESH = 14       /* memory is not a mesh */
+};
+
+/* The types: code, dimension, marks, facets, and the facets by their corner places. */
+enum mk_code {
+    MK_BAR_2 = 1,  /* 1, 2, 2: (0) (1) */
+    MK_TRI_3 = 2,  /* 2, 3, 3: (0,1) (1,2) (2,0) */
+    MK_QUAD_4 = 3, /* 2, 4, 4: (0,1) (1,2) (2,3) (3,0) */
+    MK_TETRA_4 = 4 /* 3, 4, 4: (0,2,1) (0,1,3) (1,2,3) (2,0,3) */
+};
+
+/* The words that a mesh of these capacities takes, each capacity 0 to 65,535. */
+#define MK_ROOM(marks, cells) ((size_t)16 + (size_t)8 * (size_t)(marks) + (size_t)32 * (size_t)(cells))
+
+/* The number of a cell's local facet, and back: half-facet number = 8 * cell + local facet. */
+#define MK_HALF(cell, facet) ((uint32_t)8 * (uint32_t)(cell) + (uint32_t)(facet))
+#define MK_HALF_CELL(half) ((uint32_t)(half) / (uint32_t)8)
+#define MK_HALF_FACET(half) ((uint32_t)(half) % (uint32_t)8)
+
+/*
+ * Format: a mesh of these capacities with no live cell. Refused with 1, 2. The first
+ * MK_ROOM(marks, cells) words are written, whatever they held; the others stay as they were.
+ */
+uint8_t mk_format(uint32_t *mesh, size_t words, uint32_t marks, uint32_t cells);
+
+/*
+ * Build: format, then the records inserted in order. A record is a cell number, a type code, then
+ * that type's marks; count is the count of words of all records. Refused with 1, 2, and at a record
+ * with 7 for a missing number or code, then 3, 4, 6, 7, 8, 9, 10, 11. place is written on a refusal
+ * only: the place of the refused record, from 0. Refusals 1 and 2 come with place 0 and leave the
+ * mesh as it was; a refused record leaves a formatted mesh with no live cell.
+ */
+uint8_t mk_build(uint32_t *mesh, size_t words, uint32_t marks, uint32_t cells, const uint32_t *records,
+                 size_t count, uint32_t *place);
+
+/*
+ * Insert: a cell of the caller's number, of a type code, on count marks. Refused with 14, 3, 4, 6, 7,
+ * 8, 9, 10, 11.
+ */
+uint8_t mk_insert(uint32_t *mesh, size_t words, uint32_t cell, uint32_t type, const uint32_t *marks,
+                  size_t count);
+
+/* Remove: the cell of that number taken out. Refused with 14, 3, 5. */
+uint8_t mk_remove(uint32_t *mesh, size_t words, uint32_t cell);
+
+/* Type: the type code of a cell. Refused with 14, 3, 5. */
+uint8_t mk_type(const uint32_t *mesh, size_t words, uint32_t cell, uint32_t *type);
+
+/*
+ * Marks: the marks of a cell are mesh[*at] to mesh[*at + *count - 1], in the order given at insertion.
+ * They lie inside the lent words whatever these hold. Refused with 14, 3, 5.
+ */
+uint8_t mk_marks(const uint32_t *mesh, size_t words, uint32_t cell, uint32_t *at, uint32_t *count);
+
+/*
+ * Sibling: the next half-facet with the same set of marks, and after the last the first; a border is
+ * its own. Refused with 14, 3, 5, 13.
+ */
+uint8_t mk_sibling(const uint32_t *mesh, size_t words, uint32_t cell, uint32_t facet, uint32_t *half);
+
+/*
+ * Lists. The list is written to the first places of out, and its length to count; the other places of
+ * out stay as they were. Where out has less room than the list is long, the call is refused with 12,
+ * after its other checks, and nothing is written. 128 places hold any cycle, star or anchors, 512 any
+ * neighbours, and as many as there are cells any list of mk_cells.
+ */
+
+/* Cycle: all half-facets with this one's set of marks, this one first. Refused with 14, 3, 5, 13, 12. */
+uint8_t mk_cycle(const uint32_t *mesh, size_t words, uint32_t cell, uint32_t facet, uint32_t *out, size_t room,
+                 uint32_t *count);
+
+/* Border: 1 if the half-facet is alone in its set, else 0. Refused with 14, 3, 5, 13. */
+uint8_t mk_border(const uint32_t *mesh, size_t words, uint32_t cell, uint32_t facet, uint32_t *yes);
+
+/*
+ * Star: the live cells of the dimension that hold the mark, ascending, each once. Refused with 14, 6,
+ * 8, 12.
+ */
+uint8_t mk_star(const uint32_t *mesh, size_t words, uint32_t dimension, uint32_t mark, uint32_t *out,
+                size_t room, uint32_t *count);
+
+/*
+ * Anchors: one half-facet for each group of the star, ascending: the smallest border that holds the
+ * mark, and where the group has none, the smallest half-facet that does. Refused with 14, 6, 8, 12.
+ */
+uint8_t mk_anchors(const uint32_t *mesh, size_t words, uint32_t dimension, uint32_t mark, uint32_t *out,
+                   size_t room, uint32_t *count);
+
+/*
+ * First anchor: found is 1 and half the first of the anchors, or found is 0 and half stays as it was,
+ * where there are none. Refused with 14, 6, 8.
+ */
+uint8_t mk_first_anchor(const uint32_t *mesh, size_t words, uint32_t dimension, uint32_t mark, uint32_t *found,
+                        uint32_t *half);
+
+/*
+ * Neighbours: the other live cells that share a facet with the cell, ascending, each once. Refused with
+ * 14, 3, 5, 12.
+ */
+uint8_t mk_neighbours(const uint32_t *mesh, size_t words, uint32_t cell, uint32_t *out, size_t room,
+                      uint32_t *count);
+
+/*
+ * Lookup: found is 1 and half the smallest half-facet with this set of 1 to 3 marks, whatever their
+ * order, or found is 0 and half stays as it was, where there is none. Refused with 14, 7, 8, 9.
+ */
+uint8_t mk_lookup(const uint32_t *mesh, size_t words, const uint32_t *set, size_t n, uint32_t *found,
+                  uint32_t *half);
+
+/* Cells: the live cells of a type code, ascending. Refused with 14, 6, 12. */
+uint8_t mk_cells(const uint32_t *mesh, size_t words, uint32_t type, uint32_t *out, size_t room,
+                 uint32_t *count);
+
+/* Count: how many live cells of a type code there are. Refused with 14, 6. */
+uint8_t mk_count(const uint32_t *mesh, size_t words, uint32_t type, uint32_t *count);
+
+/*
+ * Whole check: 1 if the words are a well-formed mesh, else 0. It never refuses, also under 16 words.
+ * Its time grows with the marks, the cells and the stars of the marks.
+ */
+uint8_t mk_whole(const uint32_t *mesh, size_t words);
+
+#ifdef __cplusplus
+}
+#endif
+
+#endif

@@ -1,0 +1,36 @@
+//! What the examples of the library say, by the definitions.
+
+use second::{room, Memory, Refusal};
+
+fn main() -> Result<(), Refusal> {
+    let mut map = Memory::lent(room(9, 8));
+    map.format(9, 8)?;
+    map.insert(0, 2, &[0, 1, 2])?;
+    map.insert(1, 2, &[1, 3, 2])?;
+    map.insert(2, 2, &[2, 4, 5])?;
+    map.insert(3, 3, &[1, 2, 6, 7])?;
+    map.insert(4, 1, &[2, 8])?;
+
+    tell(&map, 2)?;
+    println!("cell 1 is taken down");
+    map.remove(1)?;
+    tell(&map, 2)?;
+
+    match map.insert(5, 2, &[2, 0, 1]) {
+        Ok(()) => println!("cell 5 stands"),
+        Err(refusal) => println!("cell 5 is refused with {}", refusal.number()),
+    }
+    Ok(())
+}
+
+fn tell(map: &Memory, mark: u32) -> Result<(), Refusal> {
+    for dimension in 1..=3 {
+        let cells = map.star(dimension, mark, 128)?;
+        println!("mark {mark}, dimension {dimension}: cells {cells:?}");
+    }
+    for anchor in map.anchors(2, mark, 128)? {
+        let (cell, facet) = (anchor / 8, anchor % 8);
+        println!("a sheet begins at cell {cell}, facet {facet}");
+    }
+    Ok(())
+}

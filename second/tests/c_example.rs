@@ -1,0 +1,184 @@
+//! What the example in C must print (tests/c/viaduct.c): the same map, asked
+//! the same, by the definitions. The text is held to tests/c/expected, which
+//! tests/c/run holds the example to.
+
+mod common;
+
+use common::maps::{BAR, QUAD, TETRA, TRI};
+use second::{room, Memory, Refusal};
+use std::fmt::Write;
+
+const MARKS: u32 = 12;
+const CELLS: u32 = 10;
+const PLACES: usize = 128;
+const WALL: [u32; 3] = [0, 5, 10];
+
+/// The hillside, the deck's two sides, the pier's wall, the rail, the rock.
+#[rustfmt::skip]
+const RECORDS: [u32; 46] = [
+    0, TRI, 0, 1, 2,
+    1, TRI, 0, 2, 3,
+    2, TRI, 0, 3, 4,
+    3, QUAD, 0, 5, 6, 7,
+    4, QUAD, 5, 0, 8, 9,
+    5, TRI, 0, 5, 10,
+    6, BAR, 0, 5,
+    7, BAR, 5, 11,
+    8, TETRA, 0, 1, 2, 11,
+];
+
+const CUT_SHORT: [u32; 9] = [0, TRI, 0, 1, 2, 1, TRI, 0, 2];
+
+#[test]
+fn the_example_in_c_prints_what_the_definitions_answer() {
+    let expected = include_str!("../../tests/c/expected");
+    assert_eq!(text(), expected);
+}
+
+fn text() -> String {
+    let words = room(MARKS, CELLS);
+    let mut lines = Lines(String::new());
+    let nothing = Memory::lent(words);
+    lines.whole(&nothing);
+    lines.star(&nothing, 2, 0, PLACES);
+    lines.verdict("format", Memory::lent(words - 1).format(MARKS, CELLS));
+    lines.verdict("format", Memory::lent(words).format(65_536, CELLS));
+    let mut memory = nothing;
+    lines.verdict("format", memory.format(MARKS, CELLS));
+    lines.whole(&memory);
+    lines.build(&mut memory, &CUT_SHORT);
+    lines.whole(&memory);
+    lines.build(&mut memory, &RECORDS);
+    lines.all(&memory);
+    lines.verdict("remove 4", memory.remove(4));
+    lines.verdict("remove 4", memory.remove(4));
+    lines.all(&memory);
+    lines.verdict("remove 1", memory.remove(1));
+    lines.verdict("insert 9", memory.insert(9, TRI, &WALL));
+    lines.verdict("insert 9", memory.insert(9, QUAD, &WALL));
+    lines.verdict("remove 5", memory.remove(5));
+    lines.verdict("insert 9", memory.insert(9, TRI, &WALL));
+    lines.all(&memory);
+    lines.0
+}
+
+struct Lines(String);
+
+impl Lines {
+    fn say(&mut self, what: &str, number: u8, parts: &[String]) {
+        write!(self.0, "{what}: {number}").unwrap();
+        for part in parts {
+            write!(self.0, ";{part}").unwrap();
+        }
+        self.0.push('\n');
+    }
+
+    fn verdict(&mut self, what: &str, answer: Result<(), Refusal>) {
+        self.say(what, number(&answer), &[]);
+    }
+
+    fn one(&mut self, what: &str, answer: Result<u32, Refusal>) {
+        self.say(what, number(&answer), &[word(answer.ok())]);
+    }
+
+    fn found(&mut self, what: &str, answer: Result<Option<u32>, Refusal>) {
+        let count = answer.ok().map(|half| half.map_or(0, |_| 1));
+        let half = answer.ok().flatten();
+        self.say(what, number(&answer), &[word(count), word(half)]);
+    }
+
+    fn list(&mut self, what: &str, answer: Result<Vec<u32>, Refusal>) {
+        let count = answer.as_ref().ok().map(|list| list.len() as u32);
+        let list = answer.iter().flatten().map(|&n| word(Some(n))).collect();
+        self.say(what, number(&answer), &[word(count), list]);
+    }
+
+    fn whole(&mut self, memory: &Memory) {
+        self.say("whole", memory.whole().into(), &[]);
+    }
+
+    fn build(&mut self, memory: &mut Memory, records: &[u32]) {
+        let answer = memory.build(MARKS, CELLS, records);
+        let place = answer.err().map(|(_, place)| place as u32);
+        let refusal = answer.map_err(|(refusal, _)| refusal);
+        self.say("build", number(&refusal), &[word(place)]);
+    }
+
+    fn star(&mut self, memory: &Memory, dimension: u32, mark: u32, room: usize) {
+        let answer = memory.star(dimension, mark, room);
+        self.list(&format!("star {dimension} {mark}"), answer);
+    }
+
+    fn around_mark_0(&mut self, memory: &Memory, dimension: u32) {
+        self.star(memory, dimension, 0, PLACES);
+        let anchors = memory.anchors(dimension, 0, PLACES);
+        self.list(&format!("anchors {dimension} 0"), anchors);
+        let first = memory.first_anchor(dimension, 0);
+        self.found(&format!("first anchor {dimension} 0"), first);
+    }
+
+    fn cell(&mut self, memory: &Memory, cell: u32) {
+        let answer = memory.type_of(cell);
+        self.one(&format!("type {cell}"), answer);
+        let marks = answer.map(|_| memory.marks_of(cell));
+        self.list(&format!("marks {cell}"), marks);
+        let neighbours = memory.neighbours(cell, PLACES);
+        self.list(&format!("neighbours {cell}"), neighbours);
+    }
+
+    fn half_facet(&mut self, memory: &Memory, cell: u32, facet: u32) {
+        let sibling = memory.sibling(cell, facet);
+        self.one(&format!("sibling {cell} {facet}"), sibling);
+        let border = memory.border(cell, facet).map(u32::from);
+        self.one(&format!("border {cell} {facet}"), border);
+        let cycle = memory.cycle(cell, facet, PLACES);
+        self.list(&format!("cycle {cell} {facet}"), cycle);
+    }
+
+    fn lookup(&mut self, memory: &Memory, set: &[u32]) {
+        let marks: String = set.iter().map(|&mark| word(Some(mark))).collect();
+        self.found(&format!("lookup{marks}"), memory.lookup(set));
+    }
+
+    fn cells_of(&mut self, memory: &Memory, code: u32) {
+        let cells = memory.cells_of_type(code, PLACES);
+        self.list(&format!("cells {code}"), cells);
+        let count = memory.count_of_type(code).map(|count| count as u32);
+        self.one(&format!("count {code}"), count);
+    }
+
+    fn all(&mut self, memory: &Memory) {
+        for dimension in 0..5 {
+            self.around_mark_0(memory, dimension);
+        }
+        self.star(memory, 2, 0, 4);
+        self.star(memory, 2, MARKS, PLACES);
+        for cell in 0..=CELLS {
+            self.cell(memory, cell);
+        }
+        for cell in 3..6 {
+            self.half_facet(memory, cell, 0);
+        }
+        self.half_facet(memory, 0, 3);
+        self.lookup(memory, &[5, 0]);
+        self.lookup(memory, &[2, 1, 0]);
+        self.lookup(memory, &[6, 10]);
+        self.lookup(memory, &[5, 5]);
+        for code in 0..6 {
+            self.cells_of(memory, code);
+        }
+        self.whole(memory);
+    }
+}
+
+fn number<T>(answer: &Result<T, Refusal>) -> u8 {
+    answer.as_ref().err().map_or(0, |refusal| refusal.number())
+}
+
+/// A word that the call writes, or leaves as it was.
+fn word(written: Option<u32>) -> String {
+    match written {
+        Some(number) => format!(" {number}"),
+        None => " unwritten".into(),
+    }
+}

@@ -1,0 +1,215 @@
+/*
+ * A hillside and a viaduct that touch at mark 0, asked about from C. The deck's two sides and a pier's
+ * wall share the edge between the marks 0 and 5, so that edge has three cells.
+ */
+#include <stddef.h>
+#include <stdint.h>
+#include <stdio.h>
+
+#include "mengkiloh.h"
+
+#define MARKS 12
+#define CELLS 10
+#define WORDS MK_ROOM(MARKS, CELLS)
+#define PLACES 128
+#define UNWRITTEN 4294967295u
+
+static const uint32_t records[] = {
+    0, MK_TRI_3, 0, 1, 2,       /* the hillside */
+    1, MK_TRI_3, 0, 2, 3,       /* */
+    2, MK_TRI_3, 0, 3, 4,       /* */
+    3, MK_QUAD_4, 0, 5, 6, 7,   /* the deck, one side */
+    4, MK_QUAD_4, 5, 0, 8, 9,   /* the other side */
+    5, MK_TRI_3, 0, 5, 10,      /* the pier's wall */
+    6, MK_BAR_2, 0, 5,          /* the rail */
+    7, MK_BAR_2, 5, 11,         /* */
+    8, MK_TETRA_4, 0, 1, 2, 11, /* the rock below */
+};
+
+static const uint32_t cut_short[] = {0, MK_TRI_3, 0, 1, 2, 1, MK_TRI_3, 0, 2};
+
+static uint32_t mesh[WORDS];
+static uint32_t list[PLACES];
+
+static void say_number(uint32_t number)
+{
+    if (number == UNWRITTEN) {
+        printf(" unwritten");
+    } else {
+        printf(" %u", number);
+    }
+}
+
+static void say_list(uint8_t refusal, const uint32_t *at, uint32_t count)
+{
+    printf(": %u;", refusal);
+    say_number(count);
+    printf(";");
+    for (uint32_t i = 0; refusal == MK_ACCEPTED && i < count; i++) {
+        say_number(at[i]);
+    }
+    printf("\n");
+}
+
+static void say_verdict(const char *call, uint8_t refusal)
+{
+    printf("%s: %u\n", call, refusal);
+}
+
+static void star(uint32_t dimension, uint32_t mark, size_t room)
+{
+    uint32_t count = UNWRITTEN;
+    uint8_t refusal = mk_star(mesh, WORDS, dimension, mark, list, room, &count);
+    printf("star %u %u", dimension, mark);
+    say_list(refusal, list, count);
+}
+
+static void anchors(uint32_t dimension, uint32_t mark)
+{
+    uint32_t count = UNWRITTEN;
+    uint8_t refusal = mk_anchors(mesh, WORDS, dimension, mark, list, PLACES, &count);
+    printf("anchors %u %u", dimension, mark);
+    say_list(refusal, list, count);
+}
+
+static void first_anchor(uint32_t dimension, uint32_t mark)
+{
+    uint32_t found = UNWRITTEN;
+    uint32_t half = UNWRITTEN;
+    uint8_t refusal = mk_first_anchor(mesh, WORDS, dimension, mark, &found, &half);
+    printf("first anchor %u %u: %u;", dimension, mark, refusal);
+    say_number(found);
+    printf(";");
+    say_number(half);
+    printf("\n");
+}
+
+static void lookup(uint32_t a, uint32_t b, uint32_t c, size_t n)
+{
+    const uint32_t set[] = {a, b, c};
+    uint32_t found = UNWRITTEN;
+    uint32_t half = UNWRITTEN;
+    uint8_t refusal = mk_lookup(mesh, WORDS, set, n, &found, &half);
+    printf("lookup");
+    for (size_t i = 0; i < n; i++) {
+        say_number(set[i]);
+    }
+    printf(": %u;", refusal);
+    say_number(found);
+    printf(";");
+    say_number(half);
+    printf("\n");
+}
+
+static void half_facet(uint32_t cell, uint32_t facet)
+{
+    uint32_t half = UNWRITTEN;
+    uint32_t yes = UNWRITTEN;
+    uint32_t count = UNWRITTEN;
+    uint8_t refusal = mk_sibling(mesh, WORDS, cell, facet, &half);
+    printf("sibling %u %u: %u;", cell, facet, refusal);
+    say_number(half);
+    refusal = mk_border(mesh, WORDS, cell, facet, &yes);
+    printf("\nborder %u %u: %u;", cell, facet, refusal);
+    say_number(yes);
+    refusal = mk_cycle(mesh, WORDS, cell, facet, list, PLACES, &count);
+    printf("\ncycle %u %u", cell, facet);
+    say_list(refusal, list, count);
+}
+
+static void one_cell(uint32_t cell)
+{
+    uint32_t type = UNWRITTEN;
+    uint32_t at = UNWRITTEN;
+    uint32_t count = UNWRITTEN;
+    uint8_t refusal = mk_type(mesh, WORDS, cell, &type);
+    printf("type %u: %u;", cell, refusal);
+    say_number(type);
+    refusal = mk_marks(mesh, WORDS, cell, &at, &count);
+    printf("\nmarks %u", cell);
+    say_list(refusal, refusal == MK_ACCEPTED ? mesh + at : mesh, count);
+    count = UNWRITTEN;
+    refusal = mk_neighbours(mesh, WORDS, cell, list, PLACES, &count);
+    printf("neighbours %u", cell);
+    say_list(refusal, list, count);
+}
+
+static void cells_of(uint32_t type)
+{
+    uint32_t count = UNWRITTEN;
+    uint8_t refusal = mk_cells(mesh, WORDS, type, list, PLACES, &count);
+    printf("cells %u", type);
+    say_list(refusal, list, count);
+    count = UNWRITTEN;
+    refusal = mk_count(mesh, WORDS, type, &count);
+    printf("count %u: %u;", type, refusal);
+    say_number(count);
+    printf("\n");
+}
+
+static void whole(void)
+{
+    printf("whole: %u\n", mk_whole(mesh, WORDS));
+}
+
+/* Everything that is asked about the touching mark, the edge of three and the cells there. */
+static void all(void)
+{
+    for (uint32_t dimension = 0; dimension < 5; dimension++) {
+        star(dimension, 0, PLACES);
+        anchors(dimension, 0);
+        first_anchor(dimension, 0);
+    }
+    star(2, 0, 4);
+    star(2, MARKS, PLACES);
+    for (uint32_t cell = 0; cell <= CELLS; cell++) {
+        one_cell(cell);
+    }
+    for (uint32_t cell = 3; cell < 6; cell++) {
+        half_facet(cell, 0);
+    }
+    half_facet(0, 3);
+    lookup(5, 0, 0, 2);
+    lookup(2, 1, 0, 3);
+    lookup(6, 10, 0, 2);
+    lookup(5, 5, 0, 2);
+    for (uint32_t type = 0; type < 6; type++) {
+        cells_of(type);
+    }
+    whole();
+}
+
+static void build(const uint32_t *from, size_t count)
+{
+    uint32_t place = UNWRITTEN;
+    uint8_t refusal = mk_build(mesh, WORDS, MARKS, CELLS, from, count, &place);
+    printf("build: %u;", refusal);
+    say_number(place);
+    printf("\n");
+}
+
+int main(void)
+{
+    const uint32_t wall[] = {0, 5, 10};
+
+    whole();
+    star(2, 0, PLACES);
+    say_verdict("format", mk_format(mesh, WORDS - 1, MARKS, CELLS));
+    say_verdict("format", mk_format(mesh, WORDS, 65536, CELLS));
+    say_verdict("format", mk_format(mesh, WORDS, MARKS, CELLS));
+    whole();
+    build(cut_short, sizeof cut_short / sizeof cut_short[0]);
+    whole();
+    build(records, sizeof records / sizeof records[0]);
+    all();
+    say_verdict("remove 4", mk_remove(mesh, WORDS, 4));
+    say_verdict("remove 4", mk_remove(mesh, WORDS, 4));
+    all();
+    say_verdict("remove 1", mk_remove(mesh, WORDS, 1));
+    say_verdict("insert 9", mk_insert(mesh, WORDS, 9, MK_TRI_3, wall, 3));
+    say_verdict("insert 9", mk_insert(mesh, WORDS, 9, MK_QUAD_4, wall, 3));
+    say_verdict("remove 5", mk_remove(mesh, WORDS, 5));
+    say_verdict("insert 9", mk_insert(mesh, WORDS, 9, MK_TRI_3, wall, 3));
+    all();
+    return 0;
+}

@@ -1,0 +1,224 @@
+//! Writes a stream of frames for the frame program, made from a seed: good
+//! ones, refused ones and malformed ones.
+//!
+//! The map is drawn in phases, each with a map of its own kind: few marks and
+//! many cells (edges with many sharers, sheets that touch in a mark), solids,
+//! bars, all of them mixed; a mark with its 128th and 129th cell; a map of 384
+//! cells and one more. Cells are removed and come back throughout.
+
+mod chance;
+mod frames;
+
+use chance::Chance;
+use frames::{malformed, Frame};
+use std::io::{self, BufWriter, Write};
+use std::process::ExitCode;
+
+const USAGE: &str = "usage: streams SEED FRAMES [small]";
+const MOST: u32 = 384;
+const LONG_LINE: usize = 1 << 20;
+
+/// A map that the frames of one phase are about.
+struct Phase {
+    marks: u32,
+    cells: u32,
+    /// Marks are mostly drawn below this.
+    pool: u32,
+    codes: &'static [u8],
+    /// The part of inserts among the edits, of 16.
+    inserts: u32,
+    frames: u32,
+}
+
+fn main() -> ExitCode {
+    let words: Vec<String> = std::env::args().skip(1).collect();
+    let numbers: Vec<u64> = words.iter().map_while(|word| word.parse().ok()).collect();
+    let (seed, count, small) = match (numbers.as_slice(), words.get(2).map(String::as_str)) {
+        (&[seed, count], None) => (seed, count, false),
+        (&[seed, count], Some("small")) => (seed, count, true),
+        _ => {
+            eprintln!("{USAGE}");
+            return ExitCode::from(2);
+        }
+    };
+    match stream(seed, count, small, &mut BufWriter::new(io::stdout().lock())) {
+        Ok(()) => ExitCode::SUCCESS,
+        Err(fault) => {
+            eprintln!("streams: {fault}");
+            ExitCode::FAILURE
+        }
+    }
+}
+
+/// `small` leaves out what is slow on purpose: full marks, full maps and lines
+/// of a megabyte.
+fn stream(seed: u64, count: u64, small: bool, out: &mut impl Write) -> io::Result<()> {
+    let mut chance = Chance::from_seed(seed);
+    let mut left = count;
+    while left > 0 {
+        let kind = if small {
+            chance.below(5)
+        } else {
+            chance.below(9)
+        };
+        let phase = draw_phase(&mut chance, kind);
+        left -= 1;
+        writeln!(out, "{}", format_frame(&mut chance, &phase))?;
+        for turn in 0..u64::from(phase.frames).min(left) {
+            let line = draw_line(&mut chance, &phase, kind, turn as u32);
+            out.write_all(&line)?;
+            out.write_all(b"\n")?;
+        }
+        left -= u64::from(phase.frames).min(left);
+    }
+    if !small {
+        long_lines(&mut chance, out)?;
+    }
+    if chance.one_in(2) {
+        out.write_all(b"5002")?;
+    }
+    out.flush()
+}
+
+fn draw_phase(chance: &mut Chance, kind: u32) -> Phase {
+    const ALL: &[u8] = &[1, 2, 3, 4];
+    let phase = |marks, cells, pool, codes, inserts, frames| Phase {
+        marks,
+        cells,
+        pool,
+        codes,
+        inserts,
+        frames,
+    };
+    match kind {
+        0 => phase(6, 12, 6, &[2], 11, 300),
+        1 => phase(9, 30, 9, &[2, 3], 10, 500),
+        2 => phase(8, 20, 8, &[4], 10, 400),
+        3 => phase(12, 40, 10, ALL, 10, 900),
+        4 => phase(40, 60, 40, ALL, 12, 600),
+        5 => phase(MOST, MOST, 200, &[1], 16, 170),
+        6 => phase(MOST, MOST, 30, ALL, 15, 1500),
+        7 => phase(MOST, MOST, MOST, ALL, 14, 2500),
+        _ => phase(chance.below(5), chance.below(5), 4, ALL, 8, 60),
+    }
+}
+
+/// Now and then a format that is refused.
+fn format_frame(chance: &mut Chance, phase: &Phase) -> String {
+    let (marks, cells) = match chance.below(40) {
+        0 => (MOST + 1, phase.cells),
+        1 => (phase.marks, MOST + 1),
+        2 => (65_535, 65_535),
+        _ => (phase.marks, phase.cells),
+    };
+    Frame::Format { marks, cells }.digits()
+}
+
+fn draw_line(chance: &mut Chance, phase: &Phase, kind: u32, turn: u32) -> Vec<u8> {
+    if kind == 5 && turn < 150 {
+        return full_mark(chance, turn);
+    }
+    let frame = match chance.below(100) {
+        0..=49 => draw_edit(chance, phase),
+        50..=64 => Frame::Star {
+            dimension: draw_dimension(chance),
+            mark: draw_mark(chance, phase),
+        },
+        65..=79 => Frame::Anchors {
+            dimension: draw_dimension(chance),
+            mark: draw_mark(chance, phase),
+        },
+        80..=94 => Frame::Sibling {
+            cell: draw_cell(chance, phase),
+            facet: draw_facet(chance),
+        },
+        _ => {
+            let good = draw_edit(chance, phase).digits();
+            return malformed(chance, good.into_bytes());
+        }
+    };
+    frame.digits().into_bytes()
+}
+
+/// Bars from mark 0 to each other mark: the 128th is the last that fits.
+fn full_mark(chance: &mut Chance, turn: u32) -> Vec<u8> {
+    let frame = if chance.one_in(8) {
+        Frame::Anchors {
+            dimension: 1,
+            mark: 0,
+        }
+    } else {
+        Frame::Insert {
+            cell: turn,
+            code: 1,
+            marks: vec![0, turn + 1],
+        }
+    };
+    frame.digits().into_bytes()
+}
+
+fn draw_edit(chance: &mut Chance, phase: &Phase) -> Frame {
+    let cell = draw_cell(chance, phase);
+    if chance.below(16) >= phase.inserts {
+        return Frame::Remove { cell };
+    }
+    let code = match chance.below(60) {
+        0 => chance.below(256) as u8,
+        _ => phase.codes[chance.below(phase.codes.len() as u32) as usize],
+    };
+    let right = [0, 2, 3, 4, 4].get(usize::from(code)).copied();
+    let count = match chance.below(40) {
+        0 => chance.below(14),
+        _ => right.unwrap_or(3),
+    };
+    let mut marks: Vec<u32> = Vec::new();
+    while (marks.len() as u32) < count {
+        let mark = draw_mark(chance, phase);
+        if !marks.contains(&mark) || chance.one_in(20) {
+            marks.push(mark);
+        }
+    }
+    Frame::Insert { cell, code, marks }
+}
+
+fn draw_mark(chance: &mut Chance, phase: &Phase) -> u32 {
+    match chance.below(60) {
+        0 => phase.marks,
+        1 => chance.below(65_536),
+        _ => chance.below(phase.pool.max(1)),
+    }
+}
+
+fn draw_cell(chance: &mut Chance, phase: &Phase) -> u32 {
+    match chance.below(60) {
+        0 => phase.cells,
+        1 => chance.below(65_536),
+        _ => chance.below(phase.cells.max(1)),
+    }
+}
+
+fn draw_dimension(chance: &mut Chance) -> u8 {
+    match chance.below(30) {
+        0 => 0,
+        1 => 4,
+        2 => chance.below(256) as u8,
+        _ => 1 + chance.below(3) as u8,
+    }
+}
+
+fn draw_facet(chance: &mut Chance) -> u8 {
+    match chance.below(30) {
+        0 => chance.below(256) as u8,
+        _ => chance.below(5) as u8,
+    }
+}
+
+/// A line of a megabyte of digits, one of other characters, and a good frame
+/// behind them.
+fn long_lines(chance: &mut Chance, out: &mut impl Write) -> io::Result<()> {
+    for character in [b'0', b'z', chance.below(10) as u8 + b'0'] {
+        out.write_all(&vec![character; LONG_LINE])?;
+        out.write_all(b"\n50020000\n")?;
+    }
+    Ok(())
+}
