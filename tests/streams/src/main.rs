@@ -14,7 +14,7 @@ use frames::{malformed, Frame};
 use std::io::{self, BufWriter, Write};
 use std::process::ExitCode;
 
-const USAGE: &str = "usage: streams SEED FRAMES [small]";
+const USAGE: &str = "usage: streams SEED FRAMES [small | grid]";
 const MOST: u32 = 384;
 const LONG_LINE: usize = 1 << 20;
 
@@ -33,15 +33,17 @@ struct Phase {
 fn main() -> ExitCode {
     let words: Vec<String> = std::env::args().skip(1).collect();
     let numbers: Vec<u64> = words.iter().map_while(|word| word.parse().ok()).collect();
-    let (seed, count, small) = match (numbers.as_slice(), words.get(2).map(String::as_str)) {
-        (&[seed, count], None) => (seed, count, false),
-        (&[seed, count], Some("small")) => (seed, count, true),
+    let mut out = BufWriter::new(io::stdout().lock());
+    let done = match (numbers.as_slice(), words.get(2).map(String::as_str)) {
+        (&[seed, count], None) => stream(seed, count, false, &mut out),
+        (&[seed, count], Some("small")) => stream(seed, count, true, &mut out),
+        (&[seed, count], Some("grid")) => grid(seed, count, &mut out),
         _ => {
             eprintln!("{USAGE}");
             return ExitCode::from(2);
         }
     };
-    match stream(seed, count, small, &mut BufWriter::new(io::stdout().lock())) {
+    match done {
         Ok(()) => ExitCode::SUCCESS,
         Err(fault) => {
             eprintln!("streams: {fault}");
@@ -78,6 +80,49 @@ fn stream(seed: u64, count: u64, small: bool, out: &mut impl Write) -> io::Resul
         out.write_all(b"5002")?;
     }
     out.flush()
+}
+
+/// A sheet of triangles, six at most around a mark: each comes and goes, and is
+/// asked about.
+fn grid(seed: u64, count: u64, out: &mut impl Write) -> io::Result<()> {
+    const WIDE: u32 = 16;
+    const HIGH: u32 = 12;
+    let mut chance = Chance::from_seed(seed);
+    let (marks, cells) = ((WIDE + 1) * (HIGH + 1), 2 * WIDE * HIGH);
+    writeln!(out, "{}", Frame::Format { marks, cells }.digits())?;
+    for _ in 1..count {
+        let cell = chance.below(cells);
+        let mark = chance.below(marks);
+        let frame = match chance.below(10) {
+            0 | 1 => Frame::Remove { cell },
+            2..=4 => Frame::Insert {
+                cell,
+                code: 2,
+                marks: grid_triangle(cell, WIDE),
+            },
+            5 | 6 => Frame::Star { dimension: 2, mark },
+            7 => Frame::Anchors { dimension: 2, mark },
+            _ => Frame::Sibling {
+                cell,
+                facet: chance.below(3) as u8,
+            },
+        };
+        writeln!(out, "{}", frame.digits())?;
+    }
+    out.flush()
+}
+
+/// The triangles of a grid of squares, each cut in two.
+fn grid_triangle(cell: u32, wide: u32) -> Vec<u32> {
+    let (square, half) = (cell / 2, cell % 2);
+    let corner = square / wide * (wide + 1) + square % wide;
+    let [a, b] = [corner, corner + 1];
+    let [c, d] = [a + wide + 1, b + wide + 1];
+    if half == 0 {
+        vec![a, b, c]
+    } else {
+        vec![b, d, c]
+    }
 }
 
 fn draw_phase(chance: &mut Chance, kind: u32) -> Phase {
