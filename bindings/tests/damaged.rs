@@ -98,7 +98,7 @@ fn damage(chance: &mut Chance, words: &mut Vec<u32>) -> bool {
     *words != before
 }
 
-/// One or two calls, of any kind.
+/// A call of any kind; how many were made.
 fn one_call(chance: &mut Chance, words: &mut Vec<u32>) -> u64 {
     let before = words.clone();
     let end = match before.as_slice() {
@@ -122,7 +122,20 @@ fn one_call(chance: &mut Chance, words: &mut Vec<u32>) -> u64 {
             *words = before;
             return 1;
         }
-        2 => lists_leave_the_rest(chance, words),
+        2 => {
+            let records: Vec<u32> = (0..chance.below(12)).map(|_| chance.below(8)).collect();
+            let built = Mesh::over(&mut words[..]).build(MARKS, CELLS, &records);
+            match built.map_err(|refused| refused.refusal.number()) {
+                Err(1 | 2) => assert_eq!(*words, before),
+                _ => {
+                    assert!(Mesh::over(&words[..]).whole());
+                    assert_eq!(words[room(MARKS, CELLS)..], before[room(MARKS, CELLS)..]);
+                }
+            }
+            *words = before;
+            return 2;
+        }
+        3 => lists_leave_the_rest(chance, words),
         _ => {
             let question = Question::draw(chance, MARKS, CELLS);
             question.to_library(&Mesh::over(&words[..]));

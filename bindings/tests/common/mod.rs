@@ -1,43 +1,14 @@
-//! What the runs share: numbers by chance, the second program beside the
-//! library, and the map that memory tells.
+//! What the runs share: questions to the library and to the second program,
+//! and the map that memory tells.
 #![allow(dead_code)] // each run uses a part
 
 use mengkiloh::{Half, Mesh, Refusal};
 use second::map::{Cell, LiveCell, Mark};
 use second::shapes::type_with_code;
 use second::Memory;
+pub use streams::chance::Chance;
 
 pub const SENTINEL: u32 = 0xdead_beef;
-
-pub struct Chance {
-    state: u64,
-}
-
-impl Chance {
-    pub fn from_seed(seed: u64) -> Chance {
-        Chance { state: seed }
-    }
-
-    /// The next 64 bits (the generator SplitMix64).
-    pub fn bits(&mut self) -> u64 {
-        self.state = self.state.wrapping_add(0x9e37_79b9_7f4a_7c15);
-        let mut bits = self.state;
-        bits = (bits ^ (bits >> 30)).wrapping_mul(0xbf58_476d_1ce4_e5b9);
-        bits = (bits ^ (bits >> 27)).wrapping_mul(0x94d0_49bb_1331_11eb);
-        bits ^ (bits >> 31)
-    }
-
-    /// A number below `end`; 0 where there is none.
-    pub fn below(&mut self, end: u32) -> u32 {
-        (((self.bits() >> 32) * u64::from(end)) >> 32) as u32
-    }
-
-    pub fn shuffle<T>(&mut self, list: &mut [T]) {
-        for last in (1..list.len()).rev() {
-            list.swap(last, self.below(last as u32 + 1) as usize);
-        }
-    }
-}
 
 /// The number of a refusal, 0 for accepted, and the answer's numbers.
 pub type Said = (u8, Vec<u32>);
@@ -54,6 +25,19 @@ pub fn theirs<T>(answer: Result<T, second::Refusal>, numbers: impl FnOnce(T) -> 
         Ok(value) => (0, numbers(value)),
         Err(refusal) => (refusal.number(), Vec::new()),
     }
+}
+
+/// A list from an output between sentinels: nothing is written but its first
+/// places, and nothing at all by a refusal.
+pub fn listed(room: usize, fill: impl FnOnce(&mut [u32]) -> Result<usize, Refusal>) -> Said {
+    const EDGE: usize = 8;
+    let mut out = vec![SENTINEL; EDGE + room + EDGE];
+    let answer = fill(&mut out[EDGE..EDGE + room]);
+    let given = answer.unwrap_or(0);
+    assert!(given <= room);
+    let rest = out[..EDGE].iter().chain(&out[EDGE + given..]);
+    assert!(rest.into_iter().all(|&word| word == SENTINEL));
+    ours(answer, |count| out[EDGE..EDGE + count].to_vec())
 }
 
 pub fn numbers(halves: Vec<Half>) -> Vec<u32> {
@@ -123,19 +107,26 @@ impl Question {
         match *self {
             Question::Type(cell) => ours(mesh.type_of(cell), one),
             Question::Marks(cell) => ours(mesh.marks_of(cell), |marks| marks.to_vec()),
-            Question::Neighbours(cell) => ours(mesh.neighbours(cell), |list| list),
+            Question::Neighbours(cell) => listed(512, |out| mesh.neighbours_into(cell, out)),
             Question::Sibling(cell, facet) => ours(mesh.sibling(cell, facet), |half| vec![half.0]),
             Question::Border(cell, facet) => {
                 ours(mesh.border(cell, facet), |yes| vec![u32::from(yes)])
             }
-            Question::Cycle(cell, facet) => ours(mesh.cycle(cell, facet), numbers),
-            Question::Star(dimension, mark) => ours(mesh.star(dimension, mark), |list| list),
-            Question::Anchors(dimension, mark) => ours(mesh.anchors(dimension, mark), numbers),
+            Question::Cycle(cell, facet) => listed(128, |out| mesh.cycle_into(cell, facet, out)),
+            Question::Star(dimension, mark) => {
+                listed(128, |out| mesh.star_into(dimension, mark, out))
+            }
+            Question::Anchors(dimension, mark) => {
+                listed(128, |out| mesh.anchors_into(dimension, mark, out))
+            }
             Question::FirstAnchor(dimension, mark) => {
                 ours(mesh.first_anchor(dimension, mark), perhaps)
             }
             Question::Lookup(ref set) => ours(mesh.lookup(set), perhaps),
-            Question::Cells(code) => ours(mesh.cells(code), |list| list),
+            Question::Cells(code) => {
+                let most = mesh.count(code).unwrap_or(0).min(70_000) as usize;
+                listed(most, |out| mesh.cells_into(code, out))
+            }
             Question::Count(code) => ours(mesh.count(code), one),
         }
     }

@@ -1,6 +1,6 @@
 //! The frames of the outline's table as digits, and lines that are none.
 
-use crate::chance::Chance;
+use streams::chance::Chance;
 
 pub enum Frame {
     Format {

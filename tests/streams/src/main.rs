@@ -6,13 +6,12 @@
 //! bars, all of them mixed; a mark with its 128th and 129th cell; a map of 384
 //! cells and one more. Cells are removed and come back throughout.
 
-mod chance;
 mod frames;
 
-use chance::Chance;
 use frames::{malformed, Frame};
 use std::io::{self, BufWriter, Write};
 use std::process::ExitCode;
+use streams::chance::Chance;
 
 const USAGE: &str = "usage: streams SEED FRAMES [small | grid]";
 const MOST: u32 = 384;

@@ -1,0 +1,3 @@
+//! What runs by chance share.
+
+pub mod chance;
