@@ -2,17 +2,19 @@
 use mathlib.Core.Path.{_≡_, refl, ap, _∙_}
 use mathlib.Core.Bool.{Bool, true, false}
 use mathlib.Core.List.{List}
-use Prim.Native.Nat.{ℕ}
+use Prim.Native.Nat.{ℕ, _<_, _≤_}
 use native.Mathlib.Omega.{arith}
 use borrow.Author.Tests.{eq-eqb, ne-eqb}
 use lib.ListN.{length}
 use Rattle.lists.specs.Lists.{first}
+use Rattle.words.specs.Words.{Only}
 use Rattle.map.specs.Cells.{Map}
 use Rattle.map.specs.Answers.{Check, Answer, listAnswer}
 use Rattle.map.specs.Paper.{given, refused, valueSays, foundSays}
 use Rattle.map.specs.declared.Value.{Value}
 use Rattle.map.specs.declared.Value.the-variants as Value′
 use Rattle.map.specs.declared.Found.{Found}
+use Rattle.checks.proofs.Values.{number-some}
 use Rattle.ask.specs.Asked.{Asked}
 use Rattle.ask.specs.Refusals.{noValue, noFound}
 use Rattle.listing.specs.Listing.{Listing}
@@ -52,10 +54,16 @@ module _ (w : List ℕ) (checks : Map → List Check) (list : Map → List ℕ) 
   list-kept (Value′.Is n) l r e some = absurd (some e)
   list-kept (Value′.Refused why) l r e some = l .kept why refl
 
+  list-first : (a : Value) → Listing w checks list o a o′ → (n r n′ : ℕ) → Told (valueSays a) n r n′ → r ≡ 0 → (n′ ≤ length o) × Only (λ i. i < n′) o o′
+  unfolding valueSays given refused first
+  list-first (Value′.Is k) l n r n′ told z = rw (told .value) (l .first k refl)
+  list-first (Value′.Refused why) l n r n′ told z = absurd (omega (arith, z, told .number, number-some why))
+
   pub listed-out : (a : Value) → Listing w checks list o a o′ → (n r n′ : ℕ) → Told (valueSays a) n r n′ → Listed w checks list o n r o′ n′
   listed-out a l n r n′ told = record {
     count = answered value-plain w (λ m. listAnswer (checks m) (list m) (length o)) a (list-asked a l) n r n′ told;
     kept = list-kept a l r (told .number);
+    first = list-first a l n r n′ told;
     places = λ m wf. l .answers m wf .1;
   }
 

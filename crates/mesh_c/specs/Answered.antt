@@ -3,9 +3,9 @@
 use mathlib.Core.Path.{_≡_}
 use mathlib.Core.Bool.{false}
 use mathlib.Core.List.{List}
-use Prim.Native.Nat.{ℕ, _+_, _≤_}
+use Prim.Native.Nat.{ℕ, _+_, _<_, _≤_}
 use lib.ListN.{length}
-use Rattle.words.specs.Words.{partOf}
+use Rattle.words.specs.Words.{Only, partOf}
 use Rattle.store.specs.Layout.{cellAt}
 use Rattle.store.specs.Slots.{isMesh}
 use Rattle.map.specs.Cells.{Map}
@@ -30,6 +30,8 @@ pub record Sought (w : List ℕ) (answer : Map → Answer) (y x r y′ x′ : �
 pub record Listed (w : List ℕ) (checks : Map → List Check) (list : Map → List ℕ) (o : List ℕ) (n r : ℕ) (o′ : List ℕ) (n′ : ℕ) : Type 0 where
   pub count : Answered w (λ m. listAnswer (checks m) (list m) (length o)) n r n′
   pub kept : (r ≡ 0 → ⊥) → o′ ≡ o
+  -- only as many places as are counted change, whatever memory holds
+  pub first : r ≡ 0 → (n′ ≤ length o) × Only (λ i. i < n′) o o′
   pub places : (m : Map) → Wf w m → o′ ≡ listed (listAnswer (checks m) (list m) (length o)) (list m) o
 
 -- where in memory the marks of a cell stand, and how many; refused as the type query is
