@@ -33,7 +33,11 @@ fn every_call_is_safe_on_damaged_memory() {
             if Mesh::over(&words[..]).whole() {
                 whole += 1;
                 damaged_whole += u64::from(damaged);
-                made += agrees(&mut chance, &words);
+                // all questions where damage left a mesh, some where there was none
+                match damaged {
+                    true => agrees(&words, every_question()),
+                    false => agrees(&words, (0..4).map(|_| draw(&mut chance))),
+                }
             }
         }
     }
@@ -137,7 +141,7 @@ fn one_call(chance: &mut Chance, words: &mut Vec<u32>) -> u64 {
         }
         3 => lists_leave_the_rest(chance, words),
         _ => {
-            let question = Question::draw(chance, MARKS, CELLS);
+            let question = draw(chance);
             question.to_library(&Mesh::over(&words[..]));
             assert_eq!(*words, before, "a query changes nothing");
         }
@@ -168,11 +172,50 @@ fn lists_leave_the_rest(chance: &mut Chance, words: &[u32]) {
     assert!(out[given..].iter().all(|&word| word == SENTINEL));
 }
 
-fn agrees(chance: &mut Chance, words: &[u32]) -> u64 {
+fn draw(chance: &mut Chance) -> Question {
+    Question::draw(chance, MARKS, CELLS)
+}
+
+/// Each query with each argument, one past its range too.
+fn every_question() -> impl Iterator<Item = Question> {
+    let cells = (0..=CELLS).flat_map(|cell| {
+        let halves = (0..5).flat_map(move |facet| {
+            [
+                Question::Sibling(cell, facet),
+                Question::Border(cell, facet),
+                Question::Cycle(cell, facet),
+            ]
+        });
+        halves.chain([
+            Question::Type(cell),
+            Question::Marks(cell),
+            Question::Neighbours(cell),
+        ])
+    });
+    let marks = (0..=MARKS).flat_map(|mark| {
+        (0..5).flat_map(move |dimension| {
+            [
+                Question::Star(dimension, mark),
+                Question::Anchors(dimension, mark),
+                Question::FirstAnchor(dimension, mark),
+            ]
+        })
+    });
+    let types = (0..6).flat_map(|code| [Question::Cells(code), Question::Count(code)]);
+    let sets = (0..=MARKS).flat_map(|a| {
+        let pairs = (0..MARKS).flat_map(move |b| {
+            let triples = (0..MARKS).map(move |c| Question::Lookup(vec![a, b, c]));
+            triples.chain([Question::Lookup(vec![a, b])])
+        });
+        pairs.chain([Question::Lookup(vec![a])])
+    });
+    cells.chain(marks).chain(types).chain(sets)
+}
+
+fn agrees(words: &[u32], questions: impl Iterator<Item = Question>) {
     let (mesh, second) = (Mesh::over(words), told(words));
-    for _ in 0..4 {
-        let question = Question::draw(chance, MARKS, CELLS);
-        assert_eq!(question.to_library(&mesh), question.to_second(&second));
+    for question in questions {
+        let (ours, theirs) = (question.to_library(&mesh), question.to_second(&second));
+        assert_eq!(ours, theirs, "{question:?}");
     }
-    4
 }

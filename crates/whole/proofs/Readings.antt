@@ -9,12 +9,10 @@ use borrow.Author.Tests.{eq-eqb, ne-eqb}
 use lib.Dec.{eqb}
 use lib.ListN.{getD, length, length-append}
 use Rattle.lists.specs.Lists.{has, any, sameSet, select, after, listOf}
-use Rattle.lists.specs.Filled.{Filled, Copied}
 use Rattle.lists.proofs.Bools.{clash, or-left, not-of-false}
 use Rattle.lists.proofs.Members.{at-has}
 use Rattle.lists.proofs.Select.{select-out, select-size}
 use Rattle.lists.proofs.Alike.{any-same}
-use Rattle.lists.proofs.Fill.{filled-take, listOf-take}
 use Rattle.numbers.specs.Half.{halfOf}
 use Rattle.numbers.proofs.Inverse.{half-uncut}
 use Rattle.shapes.specs.Shapes.{noShape, shapes, shape, facetCount}
@@ -39,17 +37,12 @@ use Rattle.sibling.proofs.OneWord.{sibling-slot}
 use Rattle.sibling.proofs.Part.{marks-read}
 use Rattle.star.specs.Listed.{Reads}
 use Rattle.group.specs.Group.{Around}
+use Rattle.listing.proofs.Listed.{copied-list}
 use Rattle.listing.proofs.Facets.{facet-some, facet-inside}
 use Rattle.laid.specs.Laid.{marksIn}
 use Rattle.laid.specs.Upright.{Upright}
 use Rattle.laid.proofs.Uprights.{upright-chain, upright-linked}
 use Rattle.whole.specs.Tests.{Sees, Readied, SettledBy, twinIn, twinOf, loneOf, sibRight, ancRight, countIn, countRight}
-
--- a list copied to the first places of an output is what stands there
-copied-list : (l o o′ : List ℕ) (n : ℕ) → Copied l o n o′ → n ≤ length o → listOf n (λ i. getD o′ i 0) ≡ l
-copied-list l o o′ n c room =
-    rw (c .count)
-    (listOf-take o′ (length l) (omega (arith, c .filled .size, c .count)) ∙ filled-take l o o′ (c .filled) (omega (arith, c .count)))
 
 module _ (w : List ℕ) (caps : Caps) (s : State) (p : Pic w caps s) (u : Upright caps s) where
   -- the marks of a cell
@@ -77,11 +70,11 @@ module _ (w : List ℕ) (caps : Caps) (s : State) (p : Pic w caps s) (u : Uprigh
       → listOf n (λ i. getD o′ i 0) ≡ holders (mapWith caps s) v
   gathered-is v n o o′ g size h =
       let l = g .list s p (upright-linked caps s u) h in
-      copied-list (chainOf caps s v) o o′ n
+      copied-list (chainOf caps s v) o o′ n (omega (arith, g .few))
       (record {
         count = l .0;
         filled = record { size = g .size; wrote = λ room. rw (← l .0) (l .1 (omega (arith, l .0))) };
-      }) (omega (arith, g .few)) ∙ upright-chain caps s u v
+      }) ∙ upright-chain caps s u v
 
 module _ (w : List ℕ) (caps : Caps) (c : ℕ) where
   -- the step that looks for another cell of the kind
@@ -152,14 +145,14 @@ module _ (w : List ℕ) (caps : Caps) (rows : List (List (List ℕ))) (c f : ℕ
         → listOf n (λ i. getD o′ i 0) ≡ siblings (mapWith caps s) (halfOf c f)
     unfolding siblings mapWith
     shared-is n o o′ shared size =
-        copied-list (sharers (mapWith caps s) (facetIn w caps rows c f)) o o′ n
+        copied-list (sharers (mapWith caps s) (facetIn w caps rows c f)) o o′ n (omega (arith, shared .few))
         (shared .list s p r
         (record {
           types = types;
           some = rw facet-is (facet-some (mapWith caps s) (r .sound) c f alive few);
           mark = rw facet-is (facet-inside (mapWith caps s) (r .sound) c f alive few);
         }))
-        (omega (arith, shared .few)) ∙ ap (sharers (mapWith caps s)) set-is
+        ∙ ap (sharers (mapWith caps s)) set-is
 
     stored-is : getD w (cellAt (caps .marks) c + (5 + f)) 0 ≡ s .sib (halfOf c f)
     unfolding address halfOf
