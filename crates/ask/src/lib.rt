@@ -7,9 +7,9 @@ ghost use mathlib.Core.Path.{_≡_};
 ghost use Prim.Native.Nat.{_+_};
 ghost use lib.ListN.{getD};
 ghost use Rattle.store.specs.Layout.{markAt, cellAt};
-ghost use Rattle.map.specs.Answers.{typeAnswer, marksPart, siblingAnswer, borderAnswer, firstAnchorAnswer, countAnswer, stepAnswer};
+ghost use Rattle.map.specs.Answers.{typeAnswer, siblingAnswer, borderAnswer, firstAnchorAnswer, countAnswer, stepAnswer};
 ghost use Rattle.map.specs.Paper.{valueSays, halfSays, truthSays, foundSays, stepSays};
-ghost use Rattle.ask.specs.Asked.{Asked, Handed};
+ghost use Rattle.ask.specs.Asked.{Asked, HandedMarks};
 ghost use Rattle.ask.specs.Refusals.{noValue, noHalf, noTruth, noFound, noStep};
 use checks::check_cell;
 use checks::check_half;
@@ -53,7 +53,7 @@ pub fn type_of(w: &[u32], c: Cell) -> Value
 
 // The marks of a cell, as the very part of memory that stores them; empty where the type query refuses.
 pub fn marks_of(w: &[u32], c: Cell) -> &[u32]
-    ensures { λ r. ⌜ Handed (now (w .entry)) (λ m. marksPart m (c .0)) (now r) ⌝ }
+    ensures { λ r. ⌜ HandedMarks (w .entry) (c .0) r ⌝ }
 {
     let Opened::Mesh(caps) = open(w) else {
         return part(w, 0, 0);

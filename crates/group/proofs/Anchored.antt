@@ -313,7 +313,7 @@ anchors-gives w caps rows d v zeros cells blank lab o o′ n r stars room labs s
   size = list .filled .size;
   gives = λ s p a.
       let st = starred (mapWith caps s) d v zeros cells n (stars .gives s p (record { ready = a .settled .ready; mark = a .mark })) (omega (arith, stars .few)) in
-      let gr = grouped (mapWith caps s) d v cells n st (linkIn w caps rows cells) blank lab (omega (arith, stars .few)) (stars .few) labs (links-are w caps rows d v s p a cells n st) in
+      let gr = grouped (mapWith caps s) d v cells n st (linkIn w caps rows cells) blank lab (omega (arith, stars .few)) labs (links-are w caps rows d v s p a cells n st) in
       rw (anchors-are w caps rows d v s p a cells n st lab gr) at list;
 }
 

@@ -52,7 +52,7 @@ module _ (m : Map) (d v : ℕ) (cells : List ℕ) (n : ℕ) (st : Starred m d v 
       go (no f) (yes l) = absurd (omega (arith, st .up j i l hi, e))
       go (no f) (no g) = omega arith
 
-  module _ (link : ℕ → ℕ → Bool) (l lab : List ℕ) (room : n ≤ length l) (few : n ≤ 128) (labs : Labelled link n l lab)
+  module _ (link : ℕ → ℕ → Bool) (l lab : List ℕ) (room : n ≤ length l) (labs : Labelled link n l lab)
       (links : (i j : ℕ) → i < n → j < n → link i j ≡ linked m v (getD cells i 0) (getD cells j 0)) where
     one-group : ℕ → ℕ → Bool
     one-group p q = has (getD cells q 0) (group m d v (getD cells p 0))
@@ -73,8 +73,8 @@ module _ (m : Map) (d v : ℕ) (cells : List ℕ) (n : ℕ) (st : Starred m d v 
     step i k hi hk e = go (decLt k i) (decLt i k)
       where
         go : Dec (k < i) → Dec (i < k) → getD lab i 0 ≡ getD lab k 0
-        go (yes a) b = labs .linked room few i k a hi (links i k hi hk ∙ e)
-        go (no f) (yes b) = sym (labs .linked room few k i b hk (links k i hk hi ∙ linked-back m v _ _ e))
+        go (yes a) b = labs .linked room i k a hi (links i k hi hk ∙ e)
+        go (no f) (yes b) = sym (labs .linked room k i b hk (links k i hk hi ∙ linked-back m v _ _ e))
         go (no f) (no g) = let z : i ≡ k = omega arith in rw z
 
     along : {a b : ℕ} → Joined (linked m v) (star m d v) a b → (i j : ℕ) → i < n → j < n → getD cells i 0 ≡ a → getD cells j 0 ≡ b → getD lab i 0 ≡ getD lab j 0

@@ -2,6 +2,7 @@
 pub mod Facets
 pub mod Merging
 pub mod Seeking
+pub mod Recalling
 pub mod Listing
 pub mod Grouped
 pub mod Anchored

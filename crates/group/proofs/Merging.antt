@@ -2,8 +2,8 @@
 use mathlib.Core.Path.{_≡_, refl, sym, ap, _∙_}
 use mathlib.Core.Bool.{Bool, true}
 use mathlib.Core.List.{List}
-use mathlib.Core.Logic.{⊎-elim}
-use Prim.Native.Nat.{ℕ, _+_, _*_, _/_, _%_, _<_, _≤_}
+use mathlib.Core.Logic.{⊎-elim, _⊎_, inl, inr}
+use Prim.Native.Nat.{ℕ, _+_, _<_, _≤_}
 use native.Mathlib.Nat.{not-suc-le-zero, eq-or-lt-of-le}
 use native.Mathlib.Decide.{decLt, ℕ-discrete}
 use native.Mathlib.Omega.{arith}
@@ -11,7 +11,7 @@ use borrow.Author.Tests.{eq-eqb, ne-eqb}
 use lib.ListN.{length, getD, set, length-set}
 use lib.Seq.{getD-set-same, getD-set-other}
 use Rattle.store.specs.declared.Caps.{Caps}
-use Rattle.group.specs.Labels.{sharesIn, linkIn, Numbered, renamed, Relabelled, Relates, Within, Merged, Labelled}
+use Rattle.group.specs.Labels.{sharesIn, linkIn, Numbered, renamed, Relabelled, Relates, Within, Pairs, Merged, Labelled}
 
 pub number-start : (l : List ℕ) → Numbered 0 l l
 number-start l = record { size = refl; own = λ _ p h. absurd (not-suc-le-zero h) }
@@ -85,87 +85,113 @@ partly-end j n old new l l′ f a b =
     let e : j ≡ n = omega arith in
     record { size = f .size; each = λ room p h. f .done (omega arith) p (omega arith) }
 
+-- the rows of the places below a
+pub record Rows (a p q : ℕ) : Type 0 where
+  pub below : p < a
+
 module _ (link : ℕ → ℕ → Bool) (n : ℕ) where
-  pub merge-none : (lo : ℕ) (l : List ℕ) → Merged link n lo lo l l
-  merge-none lo l = record {
+  -- where P holds of no pair
+  pub merge-none : (P : ℕ → ℕ → Type 0) (l : List ℕ) → ((p q : ℕ) → P p q → ⊥) → Merged link n P l l
+  merge-none P l none = record {
     size = refl;
     same = λ room p q hp hq e. e;
-    linked = λ room x a b. absurd (omega arith);
+    linked = λ room p q h. absurd (none p q h);
     within = λ room R rel w. w;
   }
 
-  -- a pair that is not linked, or has one label already
-  pub merge-skip : (x : ℕ) (l : List ℕ) → (x % 128 < x / 128 → link (x / 128) (x % 128) ≡ true → getD l (x / 128) 0 ≡ getD l (x % 128) 0)
-      → Merged link n x (x + 1) l l
-  merge-skip x l f = record {
-    size = refl;
-    same = λ room p q hp hq e. e;
-    linked = λ room y a b h k e. let z : y ≡ x = omega arith in rw z (f (rw z at k) (rw z at e));
-    within = λ room R rel w. w;
-  }
+  module _ (a b : ℕ) where
+    one-pair : (p q : ℕ) → Pairs a b (b + 1) p q → (p ≡ a) × (q ≡ b)
+    one-pair p q h = (h .one, omega (arith, h .least, h .most))
 
-  -- a linked pair gets one label
-  module _ (x : ℕ) (l l′ : List ℕ) (one other : ℕ) (first : one ≡ getD l (x / 128) 0) (second : other ≡ getD l (x % 128) 0) (below : x / 128 < n)
-      (order : x % 128 < x / 128) (r : Relabelled n other one l l′) where
-    join-linked : n ≤ length l → getD l′ (x / 128) 0 ≡ getD l′ (x % 128) 0
-    join-linked room =
-        (r .each room (x / 128) below ∙ (ap (renamed other one) (sym first) ∙ renamed-new other one))
-        ∙ sym (r .each room (x % 128) (omega arith) ∙ renamed-old other one _ (sym second))
-
-    join-within : n ≤ length l → (R : ℕ → ℕ → Bool) → Relates link n R → link (x / 128) (x % 128) ≡ true → Within n R l → Within n R l′
-    join-within room R rel e w p q hp hq same = go (ℕ-discrete (getD l p 0) other) (ℕ-discrete (getD l q 0) other)
-      where
-        names : renamed other one (getD l p 0) ≡ renamed other one (getD l q 0)
-        names = sym (r .each room p hp) ∙ (same ∙ r .each room q hq)
-
-        a-b : R (x / 128) (x % 128) ≡ true
-        a-b = rel .links (x / 128) (x % 128) below (omega arith) e
-
-        go : Dec (getD l p 0 ≡ other) → Dec (getD l q 0 ≡ other) → R p q ≡ true
-        go (yes f) (yes g) = w p q hp hq (f ∙ sym g)
-        go (yes f) (no g) =
-            let to : one ≡ getD l q 0 = sym (renamed-old other one _ f) ∙ (names ∙ renamed-other other one _ g) in
-            rel .onward p (x % 128) q (w p (x % 128) hp (omega arith) (f ∙ second))
-            (rel .onward (x % 128) (x / 128) q (rel .back (x / 128) (x % 128) a-b) (w (x / 128) q below hq (sym first ∙ to)))
-        go (no f) (yes g) =
-            let to : getD l p 0 ≡ one = sym (renamed-other other one _ f) ∙ (names ∙ renamed-old other one _ g) in
-            rel .onward p (x / 128) q (w p (x / 128) hp below (to ∙ first))
-            (rel .onward (x / 128) (x % 128) q a-b (w (x % 128) q (omega arith) hq (sym second ∙ sym g)))
-        go (no f) (no g) = w p q hp hq (sym (renamed-other other one _ f) ∙ (names ∙ renamed-other other one _ g))
-
-    pub merge-join : link (x / 128) (x % 128) ≡ true → Merged link n x (x + 1) l l′
-    merge-join e = record {
-      size = r .size;
-      same = λ room p q hp hq k. r .each room p hp ∙ (ap (renamed other one) k ∙ sym (r .each room q hq));
-      linked = λ room y a b h k t. let z : y ≡ x = omega arith in rw z (join-linked room);
-      within = λ room R rel w. join-within room R rel e w;
+    -- a pair that is not linked, or has one label already
+    pub merge-skip : (l : List ℕ) → (link a b ≡ true → getD l a 0 ≡ getD l b 0) → Merged link n (Pairs a b (b + 1)) l l
+    merge-skip l f = record {
+      size = refl;
+      same = λ room p q hp hq e. e;
+      linked = λ room p q h k t e. let z = one-pair p q h in rw (z .0, z .1) (f (rw (z .0, z .1) at e));
+      within = λ room R rel w. w;
     }
 
-  pub merge-then : (lo mid hi : ℕ) (l l′ l″ : List ℕ) → Merged link n lo mid l l′ → Merged link n mid hi l′ l″ → Merged link n lo hi l l″
-  merge-then lo mid hi l l′ l″ f g = record {
+    -- a linked pair gets one label
+    module _ (l l′ : List ℕ) (one other : ℕ) (first : one ≡ getD l a 0) (second : other ≡ getD l b 0) (order : b < a) (below : a < n)
+        (r : Relabelled n other one l l′) where
+      join-linked : n ≤ length l → getD l′ a 0 ≡ getD l′ b 0
+      join-linked room =
+          (r .each room a below ∙ (ap (renamed other one) (sym first) ∙ renamed-new other one))
+          ∙ sym (r .each room b (omega arith) ∙ renamed-old other one _ (sym second))
+
+      join-within : n ≤ length l → (R : ℕ → ℕ → Bool) → Relates link n R → link a b ≡ true → Within n R l → Within n R l′
+      join-within room R rel e w p q hp hq same = go (ℕ-discrete (getD l p 0) other) (ℕ-discrete (getD l q 0) other)
+        where
+          names : renamed other one (getD l p 0) ≡ renamed other one (getD l q 0)
+          names = sym (r .each room p hp) ∙ (same ∙ r .each room q hq)
+
+          a-b : R a b ≡ true
+          a-b = rel .links a b below (omega arith) e
+
+          go : Dec (getD l p 0 ≡ other) → Dec (getD l q 0 ≡ other) → R p q ≡ true
+          go (yes f) (yes g) = w p q hp hq (f ∙ sym g)
+          go (yes f) (no g) =
+              let to : one ≡ getD l q 0 = sym (renamed-old other one _ f) ∙ (names ∙ renamed-other other one _ g) in
+              rel .onward p b q (w p b hp (omega arith) (f ∙ second)) (rel .onward b a q (rel .back a b a-b) (w a q below hq (sym first ∙ to)))
+          go (no f) (yes g) =
+              let to : getD l p 0 ≡ one = sym (renamed-other other one _ f) ∙ (names ∙ renamed-old other one _ g) in
+              rel .onward p a q (w p a hp below (to ∙ first)) (rel .onward a b q a-b (w b q (omega arith) hq (sym second ∙ sym g)))
+          go (no f) (no g) = w p q hp hq (sym (renamed-other other one _ f) ∙ (names ∙ renamed-other other one _ g))
+
+      pub merge-join : link a b ≡ true → Merged link n (Pairs a b (b + 1)) l l′
+      merge-join e = record {
+        size = r .size;
+        same = λ room p q hp hq k. r .each room p hp ∙ (ap (renamed other one) k ∙ sym (r .each room q hq));
+        linked = λ room p q h k t e′. let z = one-pair p q h in rw (z .0, z .1) (join-linked room);
+        within = λ room R rel w. join-within room R rel e w;
+      }
+
+  -- what is looked at first and what is looked at then
+  pub merge-then : (P Q S : ℕ → ℕ → Type 0) (l l′ l″ : List ℕ) → Merged link n P l l′ → Merged link n Q l′ l″
+      → ((p q : ℕ) → q < p → S p q → P p q ⊎ Q p q) → Merged link n S l l″
+  merge-then P Q S l l′ l″ f g split = record {
     size = g .size ∙ f .size;
     same = λ room p q hp hq e. g .same (later room) p q hp hq (f .same room p q hp hq e);
-    linked = λ room x a b h k e. go room x a b h k e (decLt x mid);
+    linked = λ room p q h k t e.
+        ⊎-elim (λ (x : P p q). g .same (later room) p q t (omega arith) (f .linked room p q x k t e))
+        (λ (x : Q p q). g .linked (later room) p q x k t e) (split p q k h);
     within = λ room R rel w. g .within (later room) R rel (f .within room R rel w);
   }
     where
       later : n ≤ length l → n ≤ length l′
       later room = omega (arith, f .size)
 
-      go : n ≤ length l → (x : ℕ) → lo ≤ x → x < hi → x / 128 < n → x % 128 < x / 128 → link (x / 128) (x % 128) ≡ true → Dec (x < mid)
-          → getD l″ (x / 128) 0 ≡ getD l″ (x % 128) 0
-      go room x a b h k e (yes less) = g .same (later room) (x / 128) (x % 128) h (omega arith) (f .linked room x a less h k e)
-      go room x a b h k e (no ge) = g .linked (later room) x (omega arith) b h k e
+  -- a row from its end: nothing, one pair more, all
+  pub row-none : (a : ℕ) (l : List ℕ) → Merged link n (Pairs a a a) l l
+  row-none a l = merge-none (Pairs a a a) l (λ p q h. omega (arith, h .least, h .most))
 
-  -- in the end all pairs are looked at
-  pub merge-end : (x : ℕ) (l l′ l″ : List ℕ) → Numbered n l l′ → Merged link n 0 x l′ l″ → 128 * n ≤ x → Labelled link n l l″
-  merge-end x l l′ l″ own f all = record {
+  pub row-more : (a b c : ℕ) (l l′ l″ : List ℕ) → c ≡ b + 1 → Merged link n (Pairs a c a) l l′ → Merged link n (Pairs a b (b + 1)) l′ l″
+      → Merged link n (Pairs a b a) l l″
+  row-more a b c l l′ l″ e f g = merge-then (Pairs a c a) (Pairs a b (b + 1)) (Pairs a b a) l l′ l″ f g (λ p q _ h. go p q h (decLt q c))
+    where
+      go : (p q : ℕ) → Pairs a b a p q → Dec (q < c) → Pairs a c a p q ⊎ Pairs a b (b + 1) p q
+      go p q h (yes k) = inr (record { one = h .one; least = h .least; most = omega arith })
+      go p q h (no k) = inl (record { one = h .one; least = omega arith; most = h .most })
+
+  pub row-end : (a b : ℕ) (l l′ : List ℕ) → Merged link n (Pairs a b a) l l′ → b ≤ 0 → Merged link n (Pairs a 0 a) l l′
+  row-end a b l l′ f none = let e : b ≡ 0 = omega arith in rw e at f
+
+  -- the rows from the first: none, one more, all
+  pub rows-none : (l : List ℕ) → Merged link n (Rows 0) l l
+  rows-none l = merge-none (Rows 0) l (λ p q h. not-suc-le-zero (h .below))
+
+  pub rows-more : (a : ℕ) (l l′ l″ : List ℕ) → Merged link n (Rows a) l l′ → Merged link n (Pairs a 0 a) l′ l″ → Merged link n (Rows (a + 1)) l l″
+  rows-more a l l′ l″ f g =
+      merge-then (Rows a) (Pairs a 0 a) (Rows (a + 1)) l l′ l″ f g
+      (λ p q k h.
+      ⊎-elim (λ (z : p ≡ a). inr (record { one = z; least = omega arith; most = omega arith })) (λ (x : p < a). inl (record { below = x }))
+      (eq-or-lt-of-le {n = p} {m = a} (omega (arith, h .below))))
+
+  pub rows-end : (a : ℕ) (l l′ l″ : List ℕ) → Numbered n l l′ → Merged link n (Rows a) l′ l″ → n ≤ a → Labelled link n l l″
+  rows-end a l l′ l″ own f all = record {
     size = f .size ∙ own .size;
-    linked = λ room few a b hb ha e.
-        let first : (128 * a + b) / 128 ≡ a = omega arith in
-        let second : (128 * a + b) % 128 ≡ b = omega arith in
-        rw (first, second)
-        at (f .linked (later room) (128 * a + b) (omega arith) (omega arith) (omega arith) (omega arith) (rw (first, second) e));
+    linked = λ room p q k t e. f .linked (later room) p q (record { below = omega arith }) k t e;
     within = λ room R rel self.
         f .within (later room) R rel
         (λ p q hp hq e. let z : p ≡ q = sym (own .own room p hp) ∙ (e ∙ own .own room q hq) in rw (← z) (self p hp));

@@ -2,7 +2,7 @@
 use mathlib.Core.Path.{_≡_}
 use mathlib.Core.Bool.{Bool, true, false, cond, _||_}
 use mathlib.Core.List.{List}
-use Prim.Native.Nat.{ℕ, zero, suc, _/_, _%_, _<_, _≤_}
+use Prim.Native.Nat.{ℕ, zero, suc, _<_, _≤_}
 use lib.Dec.{eqb, ltb}
 use lib.ListN.{getD, length}
 use Rattle.shapes.specs.Shapes.{facetCount}
@@ -45,16 +45,21 @@ pub record Relates (link : ℕ → ℕ → Bool) (n : ℕ) (R : ℕ → ℕ → 
 abbrev pub Within : ℕ → (ℕ → ℕ → Bool) → List ℕ → Type 0
 Within n R l = (p q : ℕ) → p < n → q < n → getD l p 0 ≡ getD l q 0 → R p q ≡ true
 
--- the pairs with numbers from lo to below hi are looked at: 128 times the one place and the other
-pub record Merged (link : ℕ → ℕ → Bool) (n lo hi : ℕ) (l l′ : List ℕ) : Type 0 where
+-- the pairs of place a with the places from lo to below hi
+pub record Pairs (a lo hi p q : ℕ) : Type 0 where
+  pub one : p ≡ a
+  pub least : lo ≤ q
+  pub most : q < hi
+
+-- the pairs that P holds of are looked at
+pub record Merged (link : ℕ → ℕ → Bool) (n : ℕ) (P : ℕ → ℕ → Type 0) (l l′ : List ℕ) : Type 0 where
   pub size : length l′ ≡ length l
   pub same : n ≤ length l → (p q : ℕ) → p < n → q < n → getD l p 0 ≡ getD l q 0 → getD l′ p 0 ≡ getD l′ q 0
-  pub linked : n ≤ length l → (x : ℕ) → lo ≤ x → x < hi → x / 128 < n → x % 128 < x / 128 → link (x / 128) (x % 128) ≡ true
-      → getD l′ (x / 128) 0 ≡ getD l′ (x % 128) 0
+  pub linked : n ≤ length l → (p q : ℕ) → P p q → q < p → p < n → link p q ≡ true → getD l′ p 0 ≡ getD l′ q 0
   pub within : n ≤ length l → (R : ℕ → ℕ → Bool) → Relates link n R → Within n R l → Within n R l′
 
 -- what the labels say in the end
 pub record Labelled (link : ℕ → ℕ → Bool) (n : ℕ) (l l′ : List ℕ) : Type 0 where
   pub size : length l′ ≡ length l
-  pub linked : n ≤ length l → n ≤ 128 → (a b : ℕ) → b < a → a < n → link a b ≡ true → getD l′ a 0 ≡ getD l′ b 0
+  pub linked : n ≤ length l → (a b : ℕ) → b < a → a < n → link a b ≡ true → getD l′ a 0 ≡ getD l′ b 0
   pub within : n ≤ length l → (R : ℕ → ℕ → Bool) → Relates link n R → ((p : ℕ) → p < n → R p p ≡ true) → Within n R l′

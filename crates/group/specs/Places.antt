@@ -1,7 +1,8 @@
 -- The anchor of a place's group, as a place: 8 times the place of its cell and its facet.
+use mathlib.Core.Path.{_≡_}
 use mathlib.Core.Bool.{Bool, true, false, cond, not, _&&_, _||_}
 use mathlib.Core.List.{List, map}
-use Prim.Native.Nat.{ℕ, _+_, _/_, _%_}
+use Prim.Native.Nat.{ℕ, _+_, _/_, _%_, _<_}
 use lib.Dec.{eqb, ltb}
 use lib.ListN.{getD}
 use Rattle.lists.specs.Lists.{has, select, first}
@@ -33,6 +34,15 @@ unfoldable pub placeIn : List ℕ → Caps → List (List (List ℕ)) → ℕ �
 placeIn w caps rows v cells lab end i =
     cond (ltb (seekIn w caps rows v cells lab end i true) end) (seekIn w caps rows v cells lab end i true)
     (seekIn w caps rows v cells lab end i false)
+
+-- what is kept for a label is the place of its group and 1; 0 for what is not known
+pub record Kept (place : ℕ → ℕ) (lab kept : List ℕ) : Type 0 where
+  pub known : (i : ℕ) → 0 < getD kept (getD lab i 0) 0 → getD kept (getD lab i 0) 0 ≡ place i + 1
+
+-- then the place is right, and so is what is kept afterwards
+pub record Recalled (place : ℕ → ℕ) (lab : List ℕ) (i : ℕ) (kept : List ℕ) (x : ℕ) (kept′ : List ℕ) : Type 0 where
+  pub right : Kept place lab kept → x ≡ place i
+  pub still : Kept place lab kept → Kept place lab kept′
 
 -- the anchors, each at the place of its own cell
 unfoldable pub anchorsIn : (ℕ → ℕ) → List ℕ → ℕ → List ℕ

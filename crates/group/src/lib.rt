@@ -3,10 +3,10 @@
 // What is here: `shares` tells whether two cells share a facet, `anchors_of` lists the anchors of a mark in a dimension,
 // `first_anchor_of` gives the first of them as number + 1. All are total on any memory. What is proved: on the picture of a settled
 // state each answer is the definition's (specs/Group.antt says what of a state is asked). How: each cell of the star has a label;
-// two cells that share a facet get one label; then for each cell the anchor of its label's cells is sought. What a caller should
-// know: each pair of cells is looked at once at most; 128 words hold any answer; the table is handed down.
+// two cells that share a facet get one label; then the anchor of each label's cells is sought, once. What a caller should know:
+// each pair of cells is looked at once at most; 128 words hold any answer; the table is handed down.
 ghost use mathlib.Core.Path.{_≡_};
-ghost use Prim.Native.Nat.{_+_, _*_, _<_};
+ghost use Prim.Native.Nat.{_+_, _<_};
 ghost use lib.Dec.{ltb};
 ghost use Rattle.lists.specs.Filled.{Copied};
 ghost use Rattle.map.specs.Cells.{shares};
@@ -15,8 +15,8 @@ ghost use Rattle.picture.specs.State.{next};
 ghost use Rattle.facet.specs.Facet.{facetIn, matchIn};
 ghost use Rattle.star.specs.Listed.{Gives, Tells, Reads};
 ghost use Rattle.group.specs.Group.{Pair, Around};
-ghost use Rattle.group.specs.Labels.{sharesIn, linkIn, Numbered, Relabelled, Merged, Labelled};
-ghost use Rattle.group.specs.Places.{borderIn, wantedIn, chosenIn, seekIn, placeIn, anchorsIn};
+ghost use Rattle.group.specs.Labels.{sharesIn, linkIn, Numbered, Relabelled, Pairs, Merged, Labelled};
+ghost use Rattle.group.specs.Places.{borderIn, wantedIn, chosenIn, seekIn, placeIn, Recalled, anchorsIn};
 use facet::copy_facet;
 use facet::facet_has;
 use facet::matching;
@@ -85,24 +85,19 @@ fn relabel(lab: &mut [u32], n: u32, old: u32, new: u32)
     }
 }
 
-// Two places whose cells share a facet get one label; the pair's number is 128 times the one and the other.
+// Two places whose cells share a facet get one label.
 fn merge_pair(
     w: &[u32],
     caps: Caps,
     rows: &[[[u8; 5]; 6]; 5],
     cells: &[u32],
     n: u32,
-    x: usize,
+    a: usize,
+    b: usize,
     lab: &mut [u32],
 )
-    requires { ⌜ x < 128 * n ⌝ }
-    ensures { λ _. ⌜ Merged (linkIn (now (w .entry)) caps (now (rows .entry)) (now (cells .entry))) n x (x + 1) (now (lab .entry)) (now (lab .exit)) ⌝ }
+    ensures { λ _. ⌜ (b < a → a < n → Merged (linkIn (now (w .entry)) caps (now (rows .entry)) (now (cells .entry))) n (Pairs a b (b + 1)) (now (lab .entry)) (now (lab .exit))) ⌝ }
 {
-    let a = x / 128;
-    let b = x % 128;
-    if a <= b {
-        return;
-    }
     let one = word(lab, a);
     let other = word(lab, b);
     if one == other {
@@ -113,16 +108,34 @@ fn merge_pair(
     }
 }
 
+// So for a place and each place before it, the nearest first: neighbours often have near numbers, and then one label soon.
+fn merge_row(
+    w: &[u32],
+    caps: Caps,
+    rows: &[[[u8; 5]; 6]; 5],
+    cells: &[u32],
+    n: u32,
+    a: u32,
+    lab: &mut [u32],
+)
+    ensures { λ _. ⌜ (a < n → Merged (linkIn (now (w .entry)) caps (now (rows .entry)) (now (cells .entry))) n (Pairs a 0 a) (now (lab .entry)) (now (lab .exit))) ⌝ }
+{
+    let mut b: u32 = a;
+    while 0 < b {
+        b -= 1;
+        merge_pair(w, caps, rows, cells, n, a as usize, b as usize, lab);
+    }
+}
+
 // The labels of the first n cells: one for each group.
 fn labels(w: &[u32], caps: Caps, rows: &[[[u8; 5]; 6]; 5], cells: &[u32], n: u32, lab: &mut [u32])
     ensures { λ _. ⌜ Labelled (linkIn (now (w .entry)) caps (now (rows .entry)) (now (cells .entry))) n (now (lab .entry)) (now (lab .exit)) ⌝ }
 {
     number(lab, n);
-    let end = 128 * (n as usize);
-    let mut x: usize = 0;
-    while x < end {
-        merge_pair(w, caps, rows, cells, n, x, lab);
-        x += 1;
+    let mut a: u32 = 0;
+    while a < n {
+        merge_row(w, caps, rows, cells, n, a, lab);
+        a += 1;
     }
 }
 
@@ -214,6 +227,34 @@ fn place(
     }
 }
 
+// The place of the anchor of place i's group; it is kept for the group's label as place + 1, so that it is sought once for a group.
+fn recall(
+    w: &[u32],
+    caps: Caps,
+    rows: &[[[u8; 5]; 6]; 5],
+    v: u32,
+    cells: &[u32],
+    lab: &[u32],
+    end: u32,
+    i: u32,
+    kept: &mut [u32],
+) -> u32
+    ensures { λ r. ⌜ Recalled (placeIn (now (w .entry)) caps (now (rows .entry)) v (now (cells .entry)) (now (lab .entry)) end) (now (lab .entry)) i (now (kept .entry)) r (now (kept .exit)) ⌝ }
+{
+    let label = word(lab, i as usize) as usize;
+    let known = word(kept, label);
+    if 0 < known {
+        return known - 1;
+    }
+    let x = place(w, caps, rows, v, cells, lab, end, i);
+    // where there is none, nothing is kept
+    if end <= x {
+        return x;
+    }
+    put(kept, label, x + 1);
+    x
+}
+
 // The anchors among the first n places, each at the place of its own cell, written to the first places of out; how many there are.
 fn list(
     w: &[u32],
@@ -228,10 +269,11 @@ fn list(
 ) -> u32
     ensures { λ r. ⌜ Copied (anchorsIn (placeIn (now (w .entry)) caps (now (rows .entry)) v (now (cells .entry)) (now (lab .entry)) end) (now (cells .entry)) n) (now (out .entry)) r (now (out .exit)) ⌝ }
 {
+    let mut kept = [0u32; 128];
     let mut k: u32 = 0;
     let mut i: u32 = 0;
     while i < n {
-        let x = place(w, caps, rows, v, cells, lab, end, i);
+        let x = recall(w, caps, rows, v, cells, lab, end, i, &mut kept);
         if x / 8 == i {
             let half = half_of(Cell(word(cells, i as usize)), x % 8);
             put(out, k as usize, half.0);

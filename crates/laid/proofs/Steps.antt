@@ -6,12 +6,13 @@ use Prim.Native.Nat.{ℕ, zero, suc, _+_, _-_, _<_, _≤_}
 use native.Mathlib.Numerals.{add-one}
 use native.Mathlib.Omega.{arith}
 use borrow.Author.Tests.{eq-eqb, ne-eqb}
+use denote.Ref.{RefT, now}
 use lib.Dec.{eqb}
 use lib.ListN.{getD}
 use Rattle.store.specs.declared.Caps.{Caps}
 use Rattle.store.specs.Layout.{markAt}
 use Rattle.chain.specs.Walk.{linkIn}
-use Rattle.laid.specs.Laid.{standsIn, goesIn, meetsIn, linkedIn}
+use Rattle.laid.specs.Laid.{marksIn, MarksAt, standsIn, goesIn, meetsIn, linkedIn}
 
 -- a row of tests: the first that fails ends it
 pub and-no : (a b : Bool) → a ≡ false → false ≡ a && b
@@ -19,6 +20,11 @@ and-no a b e = rw e
 
 pub and-yes : (a b r : Bool) → a ≡ true → r ≡ b → r ≡ a && b
 and-yes a b r e f = rw e f
+
+-- the marks that are handed back are the record's
+pub marks-words : {w r : RefT (List ℕ)} {caps : Caps} {c : ℕ} → MarksAt w caps c r → now r ≡ marksIn (now w) caps c
+unfolding marksIn
+marks-words p = p .part .words
 
 module _ (w : List ℕ) (caps : Caps) (c v : ℕ) where
   -- the walk that looks for a cell: the answer is that of the rest

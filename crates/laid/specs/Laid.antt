@@ -2,10 +2,11 @@
 use mathlib.Core.Bool.{Bool, true, false, not, _&&_, _||_}
 use mathlib.Core.List.{List}
 use Prim.Native.Nat.{ℕ, zero, suc, _+_, _-_}
+use denote.Ref.{RefT, now}
 use lib.Dec.{eqb, leb, ltb}
 use lib.ListN.{getD}
 use Rattle.lists.specs.Lists.{has, any, all, repeats, every}
-use Rattle.words.specs.Words.{partOf}
+use Rattle.words.specs.Words.{partOf, Part}
 use Rattle.shapes.specs.Shapes.{shape, facetCount}
 use Rattle.store.specs.declared.Caps.{Caps}
 use Rattle.store.specs.Layout.{markAt, cellAt, coldAt}
@@ -19,6 +20,10 @@ blankIn w at n = all {A = ℕ} (λ x. eqb x 0) (partOf w at n)
 -- the marks of a cell, as many as its type has
 unfoldable pub marksIn : List ℕ → Caps → ℕ → List ℕ
 marksIn w caps c = partOf w (cellAt (caps .marks) c + 1) (shape (codeIn w caps c) .marks)
+
+-- as the very part of memory that stores them
+pub record MarksAt (w : RefT (List ℕ)) (caps : Caps) (c : ℕ) (r : RefT (List ℕ)) : Type 0 where
+  pub part : Part w (cellAt (caps .marks) c + 1) (shape (codeIn (now w) caps c) .marks) r
 
 -- no cell, or a type of the table
 unfoldable pub typedIn : ℕ → Bool

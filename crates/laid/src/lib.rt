@@ -10,7 +10,7 @@ ghost use lib.ListN.{getD};
 ghost use Rattle.lists.specs.Lists.{all, every};
 ghost use Rattle.shapes.specs.Shapes.{shape, facetCount};
 ghost use Rattle.store.specs.Layout.{markAt};
-ghost use Rattle.laid.specs.Laid.{blankIn, marksIn, typedIn, fineIn, restIn, standsIn, goesIn, linkedIn, markIn, recordIn, cellIn, headIn, laidIn};
+ghost use Rattle.laid.specs.Laid.{blankIn, MarksAt, typedIn, fineIn, restIn, standsIn, goesIn, linkedIn, markIn, recordIn, cellIn, headIn, laidIn};
 use chain::link_after;
 use lists::has;
 use lists::reaches;
@@ -40,7 +40,7 @@ fn blank(w: &[u32], at: usize, n: usize) -> bool
 
 // The marks of a cell, as its record gives them.
 pub fn marks_at(w: &[u32], caps: Caps, c: u32) -> &[u32]
-    ensures { λ r. ⌜ now r ≡ marksIn (now (w .entry)) caps c ⌝ }
+    ensures { λ r. ⌜ MarksAt (w .entry) caps c r ⌝ }
 {
     let n = mark_count(cell_word(w, caps, c, 0));
     part(

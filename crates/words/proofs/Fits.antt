@@ -6,7 +6,8 @@ use native.Mathlib.Omega.{arith}
 use borrow.Author.Tests.{le-leb, lt-leb}
 use lib.ListN.{length, getD, take, drop, length-drop}
 use lib.Seq.{getD-take, getD-drop, length-take-le}
-use Rattle.words.specs.Words.{partOf}
+use denote.Ref.{RefT, now}
+use Rattle.words.specs.Words.{partOf, BeginsAt, Part}
 
 pub part-fits : (m : List ℕ) (at n : ℕ) → at + n ≤ length m → partOf m at n ≡ take n (drop at m)
 unfolding partOf
@@ -16,11 +17,21 @@ pub part-none : (m : List ℕ) (at n : ℕ) → length m < at + n → partOf m a
 unfolding partOf
 part-none m at n h = simp (lt-leb (at + n) (length m) h)
 
--- as the code cuts it: from one place up to another
-pub part-between : (m : List ℕ) (at n : ℕ) → at + n ≤ length m → take (at + n - at) (drop at m) ≡ partOf m at n
-part-between m at n h =
-    let e : at + n - at ≡ n = omega arith in
-    rw (e, part-fits m at n h)
+-- as the code cuts it: nothing from the front, where the words do not all lie in m
+pub part-empty : (m r : RefT (List ℕ)) (at n : ℕ) → now r ≡ [] → BeginsAt m 0 r → length (now m) < at + n → Part m at n r
+part-empty m r at n e f h = record {
+  words = e ∙ sym (part-none (now m) at n h);
+  begins = simp (lt-leb (at + n) (length (now m)) h) f;
+}
+
+-- and else from one place up to another
+pub part-whole : (m r : RefT (List ℕ)) (at n : ℕ) → now r ≡ take (at + n - at) (drop at (now m)) → BeginsAt m at r → at + n ≤ length (now m) → Part m at n r
+part-whole m r at n e f h =
+    let size : at + n - at ≡ n = omega arith in
+    record {
+      words = rw size at e ∙ sym (part-fits (now m) at n h);
+      begins = simp (le-leb (at + n) (length (now m)) h) f;
+    }
 
 -- a part that fits has its length, and its words are those of memory
 pub part-length : (m : List ℕ) (at n : ℕ) → at + n ≤ length m → length (partOf m at n) ≡ n

@@ -7,7 +7,7 @@
 // write leaves as it was, for every layer above.
 ghost use mathlib.Core.Path.{_≡_};
 ghost use lib.ListN.{getD, set};
-ghost use Rattle.words.specs.Words.{partOf};
+ghost use Rattle.words.specs.Words.{Part};
 
 // The word at a place; 0 past the end.
 pub fn word(m: &[u32], at: usize) -> u32
@@ -28,7 +28,7 @@ pub fn put(m: &mut [u32], at: usize, v: u32)
 
 // The n words from a place on, as the very part that stores them; the empty part where they do not all lie in m.
 pub fn part(m: &[u32], at: usize, n: usize) -> &[u32]
-    ensures { λ r. ⌜ now r ≡ partOf (now (m .entry)) at n ⌝ }
+    ensures { λ r. ⌜ Part (m .entry) at n r ⌝ }
 {
     if m.len() < n {
         return &m[0..0];

@@ -44,7 +44,7 @@ same-set-requires c κs = search needs
 
 returns-2 : tie.Need-returns-2
 unfolding cellAt
-returns-2 c = record-same _ _ _ _ _ _ (c .before .before .before .before .before .cell-word .ensures) (c .before .before .before .before .if1 .left) _ _ _ (c .before .before .mark-count .ensures) (c .before .part .ensures) (c .same-set .ensures)
+returns-2 c = record-same _ _ _ _ _ _ (c .before .before .before .before .before .cell-word .ensures) (c .before .before .before .before .if1 .left) _ _ _ (c .before .before .mark-count .ensures) (c .before .part .ensures .words) (c .same-set .ensures)
 
 pub same-record-spec : {M : Type 1} → statement M
 same-record-spec =

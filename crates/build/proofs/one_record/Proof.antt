@@ -37,7 +37,7 @@ same-length c = search needs
 
 returns-3 : tie.Need-returns-3
 returns-3 c =
-    record-made _ _ _ _ _ _ _ _ _ _ (omega arith) (c .before .before .before .before .before .before .word .ensures) (c .before .before .before .before .before .word2 .ensures) (omega arith) (c .before .before .before .before .part .ensures) (omega arith) (omega arith) _ _ (c .before .before .insert .ensures)
+    record-made _ _ _ _ _ _ _ _ _ _ (omega arith) (c .before .before .before .before .before .before .word .ensures) (c .before .before .before .before .before .word2 .ensures) (omega arith) (c .before .before .before .before .part .ensures .words) (omega arith) (omega arith) _ _ (c .before .before .insert .ensures)
 
 pub one-record-spec : {M : Type 1} → statement M
 one-record-spec =

@@ -25,7 +25,7 @@ has-requires : tie.Need-has-requires
 has-requires c κs = search needs
 
 returns : tie.Need-returns
-returns c = c .has .ensures ∙ ap (has _) (c .before .part .ensures ∙ facet-part _ _ _ _ _ _ _ _ (c .before .before .before .before .copy-facet .ensures) refl)
+returns c = c .has .ensures ∙ ap (has _) (c .before .part .ensures .words ∙ facet-part _ _ _ _ _ _ _ _ (c .before .before .before .before .copy-facet .ensures) refl)
 
 pub facet-has-spec : {M : Type 1} → statement M
 facet-has-spec =

@@ -25,7 +25,7 @@ same-set-requires : tie.Need-same-set-requires
 same-set-requires c κs = search needs
 
 returns : tie.Need-returns
-returns c = c .same-set .ensures ∙ ap (sameSet _) (c .before .part .ensures ∙ facet-part _ _ _ _ _ _ _ _ (c .before .before .before .before .copy-facet .ensures) refl)
+returns c = c .same-set .ensures ∙ ap (sameSet _) (c .before .part .ensures .words ∙ facet-part _ _ _ _ _ _ _ _ (c .before .before .before .before .copy-facet .ensures) refl)
 
 pub same-facet-spec : {M : Type 1} → statement M
 same-facet-spec =

@@ -27,7 +27,7 @@ matching-requires : tie.Need-matching-requires
 matching-requires c κs = search needs
 
 returns : tie.Need-returns
-returns c = ap (λ (x : ℕ). ltb x 8) (c .matching .ensures ∙ ap (matchIn _ _ _ _) (c .before .part .ensures ∙ facet-part _ _ _ _ _ _ _ _ (c .before .before .before .before .copy-facet .ensures) refl))
+returns c = ap (λ (x : ℕ). ltb x 8) (c .matching .ensures ∙ ap (matchIn _ _ _ _) (c .before .part .ensures .words ∙ facet-part _ _ _ _ _ _ _ _ (c .before .before .before .before .copy-facet .ensures) refl))
 
 pub facet-shared-spec : {M : Type 1} → statement M
 facet-shared-spec =

@@ -1,25 +1,31 @@
 -- `group::list` meets its contract.
 use borrow.Author.Needs.{needs}
+use mathlib.Core.Path.{_≡_, refl}
+use mathlib.Core.Logic.{⊎-elim}
 use Prim.Native.Nat.{_-_, _≤_}
 use native.Mathlib.Omega.{arith}
-use mathlib.Core.Logic.{⊎-elim}
+use lib.ListN.{length}
 use Rattle.lists.specs.Filled.{Copied}
-use Rattle.group.specs.Places.{placeIn, anchorsIn}
+use Rattle.group.specs.Places.{placeIn, Kept, anchorsIn}
+use Rattle.group.proofs.Recalling.{kept-none}
 use Rattle.group.proofs.Listing.{list-start, list-yes, list-no, list-end}
 use Rattle.group.proofs.list.Statement.{statement}
 use Rattle.group.proofs.list.Tie as tie
 
 abbrev Inv-loop : tie.InvT-loop
-Inv-loop w caps rows v cells lab n end out₀ k₀ i₀ out k i = (i ≤ n) × (k ≤ i) × Copied (anchorsIn (placeIn w caps rows v cells lab end) cells i) out₀ k out
+Inv-loop w caps rows v cells lab n end out₀ kept₀ k₀ i₀ out kept k i = (i ≤ n) × (k ≤ i) × (length kept ≡ 128) × Kept (placeIn w caps rows v cells lab end) lab kept × Copied (anchorsIn (placeIn w caps rows v cells lab end) cells i) out₀ k out
 
 abbrev μ-loop : tie.MeasureT-loop
-μ-loop w caps rows v cells lab n end out₀ k₀ i₀ out k i = n - i
+μ-loop w caps rows v cells lab n end out₀ kept₀ k₀ i₀ out kept k i = n - i
 
 loop-holds : tie.Need-loop-holds Inv-loop μ-loop
-loop-holds c = (omega arith, omega arith, list-start _ _ _)
+loop-holds c = (omega arith, omega arith, refl, kept-none _ _ 128, list-start _ _ _)
 
-place-requires : tie.Need-place-requires Inv-loop μ-loop
-place-requires c κs = search needs
+slice-aggregate-recall : tie.Need-slice-aggregate-recall Inv-loop μ-loop
+slice-aggregate-recall c = search needs
+
+recall-requires : tie.Need-recall-requires Inv-loop μ-loop
+recall-requires c κs = search needs
 
 cast-word : tie.Need-cast-word Inv-loop μ-loop
 cast-word c = search needs
@@ -50,13 +56,17 @@ loop-again c =
     ⊎-elim
     (λ w. (
       omega arith,
-      omega (arith, w .8, c .before .before .before .loop .inv .1),
-      rw (w .8, w .7) (list-yes _ _ _ (c .before .before .before .loop .i) _ _ _ _ _ _ (c .before .before .before .loop .inv .2) (c .before .place .ensures) (w .0 .taken) (w .1 .ensures) (w .2 .ensures) (w .4 .ensures)),
+      omega (arith, w .8, c .before .before .before .before .before .loop .inv .1),
+      omega arith,
+      c .before .before .recall .ensures .still (c .before .before .before .before .before .loop .inv .3),
+      rw (w .8, w .7) (list-yes _ _ _ (c .before .before .before .before .before .loop .i) _ _ _ _ _ _ (c .before .before .before .before .before .loop .inv .4) (c .before .before .recall .ensures .right (c .before .before .before .before .before .loop .inv .3)) (w .0 .taken) (w .1 .ensures) (w .2 .ensures) (w .4 .ensures)),
     ))
     (λ w. (
       omega arith,
-      omega (arith, w .2, c .before .before .before .loop .inv .1),
-      rw (w .2, w .1) (list-no _ _ _ (c .before .before .before .loop .i) _ _ _ (c .before .before .before .loop .inv .2) (c .before .place .ensures) (w .0 .left)),
+      omega (arith, w .2, c .before .before .before .before .before .loop .inv .1),
+      omega arith,
+      c .before .before .recall .ensures .still (c .before .before .before .before .before .loop .inv .3),
+      rw (w .2, w .1) (list-no _ _ _ (c .before .before .before .before .before .loop .i) _ _ _ (c .before .before .before .before .before .loop .inv .4) (c .before .before .recall .ensures .right (c .before .before .before .before .before .loop .inv .3)) (w .0 .left)),
     ))
     (c .if1 .came)
 
@@ -64,7 +74,7 @@ same-length : tie.Need-same-length Inv-loop μ-loop
 same-length c = search needs
 
 returns : tie.Need-returns Inv-loop μ-loop
-returns c = list-end _ _ _ (c .before .loop .i) _ _ _ (c .before .loop .inv .2) (c .before .loop .inv .0) (omega arith)
+returns c = list-end _ _ _ (c .before .loop .i) _ _ _ (c .before .loop .inv .4) (c .before .loop .inv .0) (omega arith)
 
 pub list-spec : {M : Type 1} → statement M
 list-spec =
@@ -73,7 +83,8 @@ list-spec =
     Inv-loop
     μ-loop
     loop-holds
-    place-requires
+    slice-aggregate-recall
+    recall-requires
     cast-word
     word-requires
     half-of-requires

@@ -40,7 +40,7 @@ shared-slice-read-if1 c = search needs
 -- src/lib.rt:34:13
 returns : tie.Need-returns Inv-loop μ-loop
 unfolding blankIn
-returns c = rw (← c .before .before .before .before .part .ensures) (all-stop (λ x. eqb x 0) _ (c .before .before .before .loop .i) (c .before .before .before .loop .inv .1) (ne-eqb _ _ (c .if1 .taken)) (omega arith))
+returns c = rw (← c .before .before .before .before .part .ensures .words) (all-stop (λ x. eqb x 0) _ (c .before .before .before .loop .i) (c .before .before .before .loop .inv .1) (ne-eqb _ _ (c .if1 .taken)) (omega arith))
 
 -- src/lib.rt:36:9
 add-i : tie.Need-add-i Inv-loop μ-loop
@@ -57,7 +57,7 @@ loop-again c = (omega arith, all-go (λ x. eqb x 0) _ (c .before .before .before
 -- src/lib.rt:27:1
 returns-2 : tie.Need-returns-2 Inv-loop μ-loop
 unfolding blankIn
-returns-2 c = rw (← c .before .before .part .ensures) (all-end (λ x. eqb x 0) _ (c .before .loop .i) (c .before .loop .inv .1) (omega arith))
+returns-2 c = rw (← c .before .before .part .ensures .words) (all-end (λ x. eqb x 0) _ (c .before .loop .i) (c .before .loop .inv .1) (omega arith))
 
 pub blank-spec : {M : Type 1} → statement M
 blank-spec =

@@ -1,5 +1,5 @@
 use Rattle.laid.specs.Laid.{cellIn}
-use Rattle.laid.proofs.Steps.{and-no, and-yes}
+use Rattle.laid.proofs.Steps.{and-no, and-yes, marks-words}
 use borrow.Author.Tests.{not-true, not-false}
 use mathlib.Core.Bool.{Bool, true, false, not}
 use mathlib.Core.Path.{_≡_, refl, sym, ap, _∙_}
@@ -32,7 +32,7 @@ all-linked-requires c κs = search needs
 -- src/lib.rt:141:1
 returns-2 : tie.Need-returns-2
 unfolding cellIn
-returns-2 c = and-yes _ _ _ (sym (c .before .before .before .record-ok .ensures) ∙ not-false _ (c .before .before .if1 .left)) (rw (← c .before .marks-at .ensures) (c .all-linked .ensures))
+returns-2 c = and-yes _ _ _ (sym (c .before .before .before .record-ok .ensures) ∙ not-false _ (c .before .before .if1 .left)) (rw (← marks-words (c .before .marks-at .ensures)) (c .all-linked .ensures))
 
 pub cell-ok-spec : {M : Type 1} → statement M
 cell-ok-spec =

@@ -1,7 +1,6 @@
 use mathlib.Core.Path.{_≡_, refl, sym, ap, _∙_}
 use Rattle.store.specs.Layout.{cellAt}
 use Rattle.facet.specs.Facet.{codeIn}
-use Rattle.laid.specs.Laid.{marksIn}
 use borrow.Author.Needs.{needs}
 use Rattle.laid.proofs.marks_at.Statement.{statement}
 use Rattle.laid.proofs.marks_at.Tie as tie
@@ -53,8 +52,8 @@ part-requires c κs = search needs
 
 -- src/lib.rt:42:1
 returns : tie.Need-returns
-unfolding marksIn codeIn cellAt
-returns c = rw (← c .before .before .before .cell-word .ensures, ← c .before .before .mark-count .ensures) (c .part .ensures)
+unfolding codeIn cellAt
+returns c = record { part = rw (← c .before .before .before .cell-word .ensures, ← c .before .before .mark-count .ensures) (c .part .ensures) }
 
 pub marks-at-spec : {M : Type 1} → statement M
 marks-at-spec =

@@ -1,6 +1,6 @@
 use Rattle.laid.specs.Laid.{recordIn}
 use Rattle.facet.specs.Facet.{codeIn}
-use Rattle.laid.proofs.Steps.{and-no, and-yes}
+use Rattle.laid.proofs.Steps.{and-no, and-yes, marks-words}
 use borrow.Author.Tests.{not-true, not-false}
 use mathlib.Core.Bool.{Bool, true, false, not}
 use mathlib.Core.Path.{_≡_, refl, sym, ap, _∙_}
@@ -39,7 +39,7 @@ fine-requires c κs = search needs
 -- src/lib.rt:102:9
 returns-2 : tie.Need-returns-2
 unfolding recordIn codeIn
-returns-2 c = rw (← c .before .before .before .before .before .cell-word .ensures, ← c .before .before .marks-at .ensures) (and-yes _ _ _ (sym (c .before .before .before .before .typed .ensures) ∙ not-false _ (c .before .before .before .if1 .left)) (and-no _ _ (sym (c .before .fine .ensures) ∙ not-true _ (c .if2 .taken))))
+returns-2 c = rw (← c .before .before .before .before .before .cell-word .ensures, ← marks-words (c .before .before .marks-at .ensures)) (and-yes _ _ _ (sym (c .before .before .before .before .typed .ensures) ∙ not-false _ (c .before .before .before .if1 .left)) (and-no _ _ (sym (c .before .fine .ensures) ∙ not-true _ (c .if2 .taken))))
 
 -- src/lib.rt:104:5
 rest-requires : tie.Need-rest-requires
@@ -48,7 +48,7 @@ rest-requires c κs = search needs
 -- src/lib.rt:94:1
 returns-3 : tie.Need-returns-3
 unfolding recordIn codeIn
-returns-3 c = rw (← c .before .before .before .before .before .before .cell-word .ensures, ← c .before .before .before .marks-at .ensures) (and-yes _ _ _ (sym (c .before .before .before .before .before .typed .ensures) ∙ not-false _ (c .before .before .before .before .if1 .left)) (and-yes _ _ _ (sym (c .before .before .fine .ensures) ∙ not-false _ (c .before .if2 .left)) (c .rest .ensures)))
+returns-3 c = rw (← c .before .before .before .before .before .before .cell-word .ensures, ← marks-words (c .before .before .before .marks-at .ensures)) (and-yes _ _ _ (sym (c .before .before .before .before .before .typed .ensures) ∙ not-false _ (c .before .before .before .before .if1 .left)) (and-yes _ _ _ (sym (c .before .before .fine .ensures) ∙ not-false _ (c .before .if2 .left)) (c .rest .ensures)))
 
 pub record-ok-spec : {M : Type 1} → statement M
 record-ok-spec =

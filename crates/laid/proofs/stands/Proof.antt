@@ -3,7 +3,7 @@ use mathlib.Core.Bool.{Bool, true, false, not}
 use native.Mathlib.Omega.{arith}
 use borrow.Author.Tests.{le-leb, lt-leb, lt-ltb, le-ltb}
 use Rattle.laid.specs.Laid.{standsIn}
-use Rattle.laid.proofs.Steps.{and-no, and-yes}
+use Rattle.laid.proofs.Steps.{and-no, and-yes, marks-words}
 use borrow.Author.Needs.{needs}
 use Rattle.laid.proofs.stands.Statement.{statement}
 use Rattle.laid.proofs.stands.Tie as tie
@@ -33,7 +33,7 @@ has-requires c κs = search needs
 -- src/lib.rt:151:1
 returns-3 : tie.Need-returns-3
 unfolding standsIn
-returns-3 c = and-yes _ _ _ (le-leb _ _ (c .before .before .before .before .if1 .left)) (and-yes _ _ _ (lt-ltb _ _ (c .before .before .if2 .left)) (rw (← c .before .marks-at .ensures) (c .has .ensures)))
+returns-3 c = and-yes _ _ _ (le-leb _ _ (c .before .before .before .before .if1 .left)) (and-yes _ _ _ (lt-ltb _ _ (c .before .before .if2 .left)) (rw (← marks-words (c .before .marks-at .ensures)) (c .has .ensures)))
 
 pub stands-spec : {M : Type 1} → statement M
 stands-spec = tie.close (tie.spec returns returns-2 marks-at-requires has-requires returns-3)

@@ -34,7 +34,7 @@ same-length c = search needs
 
 returns : tie.Need-returns
 returns c =
-    remove-by-record _ _ _ _ _ (c .before .before .before .before .before .before .before .before .copy-corners .ensures) refl _ _ _ _ (c .before .before .before .before .before .before .before .before .before .before .before .cell-word .ensures) (c .before .before .before .before .mark-count .ensures) (c .before .before .before .part .ensures)
+    remove-by-record _ _ _ _ _ (c .before .before .before .before .before .before .before .before .copy-corners .ensures) refl _ _ _ _ (c .before .before .before .before .before .before .before .before .before .before .before .cell-word .ensures) (c .before .before .before .before .mark-count .ensures) (c .before .before .before .part .ensures .words)
     (c .before .before .take-out .ensures)
 
 pub make-remove-spec : {M : Type 1} → statement M

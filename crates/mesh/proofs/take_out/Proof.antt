@@ -45,7 +45,7 @@ same-length-2 c = search needs
 
 returns-2 : tie.Need-returns-2
 returns-2 c =
-    remove-made _ _ _ _ _ (c .before .before .before .before .before .before .before .before .before .before .before .before .before .before .before .before .before .before .before .before .before .before .before .before .before .facet-table .ensures) _ _ (c .before .before .before .before .before .before .before .before .before .before .before .before .before .before .before .before .before .before .before .before .before .before .before .word .ensures) _ _ _ _ _ _ (c .before .before .before .before .before .before .before .before .before .before .before .before .before .before .before .before .part .ensures) (c .before .before .before .before .before .before .before .before .before .before .before .before .before .before .before .before .before .before .before .before .unlink-all .ensures) (c .before .before .before .before .before .before .before .before .before .before .before .before .before .before .before .put-body .ensures)
+    remove-made _ _ _ _ _ (c .before .before .before .before .before .before .before .before .before .before .before .before .before .before .before .before .before .before .before .before .before .before .before .before .before .facet-table .ensures) _ _ (c .before .before .before .before .before .before .before .before .before .before .before .before .before .before .before .before .before .before .before .before .before .before .before .word .ensures) _ _ _ _ _ _ (c .before .before .before .before .before .before .before .before .before .before .before .before .before .before .before .before .part .ensures .words) (c .before .before .before .before .before .before .before .before .before .before .before .before .before .before .before .before .before .before .before .before .unlink-all .ensures) (c .before .before .before .before .before .before .before .before .before .before .before .before .before .before .before .put-body .ensures)
     (c .before .before .before .before .before .before .before .before .before .before .before .clear-siblings .ensures) (c .before .before .before .before .before .before .settle .ensures) (c .before .before .put-count .ensures)
 
 pub take-out-spec : {M : Type 1} → statement M

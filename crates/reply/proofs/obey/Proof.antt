@@ -70,7 +70,7 @@ same-length-4 : tie.Need-same-length-4
 same-length-4 c = search needs
 
 returns-2 : tie.Need-returns-2
-returns-2 c = obeyed-insert _ _ _ _ _ _ _ _ (c .before .before .before .before .before .before .before .before .before .frame2 .given .1) (c .before .before .before .before .before .before .part .ensures) (omega arith) (c .before .before .before .before .reply-insert .ensures)
+returns-2 c = obeyed-insert _ _ _ _ _ _ _ _ (c .before .before .before .before .before .before .before .before .before .frame2 .given .1) (c .before .before .before .before .before .before .part .ensures .words) (omega arith) (c .before .before .before .before .reply-insert .ensures)
 
 same-length-5 : tie.Need-same-length-5
 same-length-5 c = search needs

@@ -28,7 +28,7 @@ same-length : tie.Need-same-length
 same-length c = search needs
 
 returns : tie.Need-returns
-returns c = mend-step _ _ _ _ _ _ (c .before .before .before .part .ensures ∙ set-part _ _ _ _ _ _ _ (c .before .before .before .before .before .before .before .facet-set .ensures) refl) (c .before .before .mend .ensures)
+returns c = mend-step _ _ _ _ _ _ (c .before .before .before .part .ensures .words ∙ set-part _ _ _ _ _ _ _ (c .before .before .before .before .before .before .before .facet-set .ensures) refl) (c .before .before .mend .ensures)
 
 pub mend-facet-spec : {M : Type 1} → statement M
 mend-facet-spec =

@@ -1,6 +1,6 @@
 use Rattle.facet.specs.Facet.{codeIn}
 use borrow.Author.Tests.{eq-eqb, ne-eqb}
-use Rattle.laid.proofs.Steps.{and-no, and-yes}
+use Rattle.laid.proofs.Steps.{and-no, and-yes, marks-words}
 use Rattle.whole.specs.Tests.{twinIn}
 use mathlib.Core.Bool.{Bool, true, false, not}
 use mathlib.Core.Path.{_≡_, refl, sym, ap, _∙_}
@@ -46,7 +46,7 @@ same-set-requires c κs = search needs
 -- src/lib.rt:34:1
 returns-3 : tie.Need-returns-3
 unfolding twinIn codeIn
-returns-3 c = and-yes _ _ _ (ap not (ne-eqb _ _ (c .before .before .before .before .before .before .if1 .left))) (rw (← c .before .before .before .before .before .cell-word .ensures, ← c .before .before .before .before .cell-word2 .ensures, ← c .before .before .marks-at .ensures, ← c .before .marks-at2 .ensures) (and-yes _ _ _ (eq-eqb _ _ (c .before .before .before .if2 .left)) (c .same-set .ensures)))
+returns-3 c = and-yes _ _ _ (ap not (ne-eqb _ _ (c .before .before .before .before .before .before .if1 .left))) (rw (← c .before .before .before .before .before .cell-word .ensures, ← c .before .before .before .before .cell-word2 .ensures, ← marks-words (c .before .before .marks-at .ensures), ← marks-words (c .before .marks-at2 .ensures)) (and-yes _ _ _ (eq-eqb _ _ (c .before .before .before .if2 .left)) (c .same-set .ensures)))
 
 pub twin-spec : {M : Type 1} → statement M
 twin-spec =

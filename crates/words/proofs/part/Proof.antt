@@ -1,8 +1,8 @@
 -- `words::part` meets its contract.
-use mathlib.Core.Path.{sym}
+use mathlib.Core.Path.{refl}
 use native.Mathlib.Omega.{arith}
 use borrow.Author.Needs.{needs}
-use Rattle.words.proofs.Fits.{part-between, part-none}
+use Rattle.words.proofs.Fits.{part-empty, part-whole}
 use Rattle.words.proofs.part.Statement.{statement}
 use Rattle.words.proofs.part.Tie as tie
 
@@ -16,7 +16,7 @@ part-result-end : tie.Need-part-result-end
 part-result-end c = search needs
 
 returns : tie.Need-returns
-returns c = sym (part-none _ _ _ (omega arith))
+returns c = part-empty _ _ _ _ refl refl (omega arith)
 
 sub-if2 : tie.Need-sub-if2
 sub-if2 c = search needs
@@ -31,7 +31,7 @@ part-result-end-2 : tie.Need-part-result-end-2
 part-result-end-2 c = search needs
 
 returns-2 : tie.Need-returns-2
-returns-2 c = sym (part-none _ _ _ (omega arith))
+returns-2 c = part-empty _ _ _ _ refl refl (omega arith)
 
 add-end : tie.Need-add-end
 add-end c = search needs
@@ -49,7 +49,7 @@ part-result-end-3 : tie.Need-part-result-end-3
 part-result-end-3 c = search needs
 
 returns-3 : tie.Need-returns-3
-returns-3 c = part-between _ _ _ (omega arith)
+returns-3 c = part-whole _ _ _ _ refl refl (omega arith)
 
 pub part-spec : {M : Type 1} → statement M
 part-spec =

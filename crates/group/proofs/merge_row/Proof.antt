@@ -1,0 +1,55 @@
+-- `group::merge_row` meets its contract.
+use borrow.Author.Needs.{needs}
+use mathlib.Core.Path.{_≡_, refl}
+use Prim.Native.Nat.{_<_, _≤_}
+use native.Mathlib.Omega.{arith}
+use lib.ListN.{length}
+use Rattle.group.specs.Labels.{linkIn, Pairs, Merged}
+use Rattle.group.proofs.Merging.{row-none, row-more, row-end}
+use Rattle.group.proofs.merge_row.Statement.{statement}
+use Rattle.group.proofs.merge_row.Tie as tie
+
+abbrev Inv-loop : tie.InvT-loop
+Inv-loop w caps rows cells n a lab₀ b₀ lab b = (b ≤ a) × (length lab ≡ length lab₀) × (a < n → Merged (linkIn w caps rows cells) n (Pairs a b a) lab₀ lab)
+
+abbrev μ-loop : tie.MeasureT-loop
+μ-loop w caps rows cells n a lab₀ b₀ lab b = b
+
+loop-holds : tie.Need-loop-holds Inv-loop μ-loop
+loop-holds c = (omega arith, refl, λ below. row-none _ _ _ _)
+
+sub-b : tie.Need-sub-b Inv-loop μ-loop
+sub-b c = search needs
+
+cast-merge-pair : tie.Need-cast-merge-pair Inv-loop μ-loop
+cast-merge-pair c = search needs
+
+merge-pair-requires : tie.Need-merge-pair-requires Inv-loop μ-loop
+merge-pair-requires c κs = search needs
+
+loop-less : tie.Need-loop-less Inv-loop μ-loop
+loop-less c = search needs
+
+loop-again : tie.Need-loop-again Inv-loop μ-loop
+loop-again c = (omega arith, omega arith, λ below. row-more _ _ _ _ (c .before .before .before .before .before .loop .b) _ _ _ (omega arith) (c .before .before .before .before .before .loop .inv .2 below) (c .before .before .merge-pair .ensures (omega arith) below))
+
+same-length : tie.Need-same-length Inv-loop μ-loop
+same-length c = search needs
+
+returns : tie.Need-returns Inv-loop μ-loop
+returns c = λ below. row-end _ _ _ (c .before .loop .b) _ _ (c .before .loop .inv .2 below) (omega arith)
+
+pub merge-row-spec : {M : Type 1} → statement M
+merge-row-spec =
+    tie.close
+    (tie.spec
+    Inv-loop
+    μ-loop
+    loop-holds
+    sub-b
+    cast-merge-pair
+    merge-pair-requires
+    loop-less
+    loop-again
+    same-length
+    returns)
