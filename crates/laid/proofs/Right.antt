@@ -37,6 +37,12 @@ use Rattle.laid.specs.Laid.{blankIn, marksIn, typedIn, fineIn, restIn, g
 use Rattle.laid.proofs.Blanks.{word-blank}
 use Rattle.laid.proofs.Chains.{right-goes, right-meets}
 
+-- the marks of a cell by the records, on the picture of a state
+pub marks-is : (w : List ℕ) (caps : Caps) (s : State) → Pic w caps s → (c : ℕ) → c < caps .cells → length (s .at c .marks) ≡ shape (s .at c .code) .marks
+    → marksIn w caps c ≡ s .at c .marks
+unfolding marksIn
+marks-is w caps s p c h fits = rw (code-read w caps s p c h, ← fits) (marks-read w caps s p c h (omega (arith, fits, four-marks (s .at c .code))))
+
 module _ (w : List ℕ) (caps : Caps) (m : Map) (e : capsOf m ≡ caps) (wf : Wf w m) where
   p : Pic w caps (stateOf m)
   p = wf-pic w caps m e wf
@@ -72,10 +78,8 @@ module _ (w : List ℕ) (caps : Caps) (m : Map) (e : capsOf m ≡ caps) (wf : Wf
     right-code = code-read w caps (stateOf m) p c h
 
     pub right-marks : marksIn w caps c ≡ m .at c .marks
-    unfolding marksIn stateOf
-    right-marks =
-        rw (right-code, ← wf .sound .fitting c)
-        (marks-read w caps (stateOf m) p c h (omega (arith, wf .sound .fitting c, four-marks (m .at c .code))))
+    unfolding stateOf
+    right-marks = marks-is w caps (stateOf m) p c h (wf .sound .fitting c)
 
     marks-count : length (m .at c .marks) ≡ shape (codeIn w caps c) .marks
     marks-count = rw right-code (wf .sound .fitting c)

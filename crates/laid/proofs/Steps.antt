@@ -14,13 +14,6 @@ use Rattle.store.specs.Layout.{markAt}
 use Rattle.chain.specs.Walk.{linkIn}
 use Rattle.laid.specs.Laid.{marksIn, MarksAt, standsIn, goesIn, meetsIn, linkedIn}
 
--- a row of tests: the first that fails ends it
-pub and-no : (a b : Bool) → a ≡ false → false ≡ a && b
-and-no a b e = rw e
-
-pub and-yes : (a b r : Bool) → a ≡ true → r ≡ b → r ≡ a && b
-and-yes a b r e f = rw e f
-
 -- the marks that are handed back are the record's
 pub marks-words : {w r : RefT (List ℕ)} {caps : Caps} {c : ℕ} → MarksAt w caps c r → now r ≡ marksIn (now w) caps c
 unfolding marksIn

@@ -29,6 +29,13 @@ and-right false b e = absurd (clash e refl)
 pub and-both : (a b : Bool) → a ≡ true → b ≡ true → a && b ≡ true
 and-both a b p q = rw (p, q)
 
+-- a row of tests: the first that fails ends it
+pub and-no : (a b : Bool) → a ≡ false → false ≡ a && b
+and-no a b e = rw e
+
+pub and-yes : (a b r : Bool) → a ≡ true → r ≡ b → r ≡ a && b
+and-yes a b r e f = rw e f
+
 pub or-cases : (a b : Bool) → a || b ≡ true → (a ≡ true) ⊎ (b ≡ true)
 or-cases true b e = inl refl
 or-cases false b e = inr e

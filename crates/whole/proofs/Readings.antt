@@ -17,7 +17,7 @@ use Rattle.numbers.specs.Half.{halfOf}
 use Rattle.numbers.proofs.Inverse.{half-uncut}
 use Rattle.shapes.specs.Shapes.{noShape, shapes, shape, facetCount}
 use Rattle.shapes.specs.Table.{table}
-use Rattle.shapes.proofs.Today.{four-marks, four-facets, type-marks}
+use Rattle.shapes.proofs.Today.{four-facets, type-marks}
 use Rattle.store.specs.declared.Caps.{Caps}
 use Rattle.store.specs.Layout.{markAt, cellAt, Mark, Cell, address}
 use Rattle.map.specs.Cells.{Map, live, holds, dimensionAt, facetsAt}
@@ -34,28 +34,20 @@ use Rattle.facet.specs.Facet.{codeIn, cornerIn, facetIn}
 use Rattle.sibling.specs.Shared.{Shared}
 use Rattle.sibling.proofs.OnPicture.{code-read, corner-read, facet-read, facets-count}
 use Rattle.sibling.proofs.OneWord.{sibling-slot}
-use Rattle.sibling.proofs.Part.{marks-read}
 use Rattle.star.specs.Listed.{Reads}
 use Rattle.group.specs.Group.{Around}
 use Rattle.listing.proofs.Listed.{copied-list}
 use Rattle.listing.proofs.Facets.{facet-some, facet-inside}
-use Rattle.laid.specs.Laid.{marksIn}
 use Rattle.laid.specs.Upright.{Upright}
+use Rattle.laid.proofs.Right.{marks-is}
 use Rattle.laid.proofs.Uprights.{upright-chain, upright-linked}
 use Rattle.whole.specs.Tests.{Sees, Readied, SettledBy, twinIn, twinOf, loneOf, sibRight, ancRight, countIn, countRight}
 
 module _ (w : List ℕ) (caps : Caps) (s : State) (p : Pic w caps s) (u : Upright caps s) where
-  -- the marks of a cell
-  marks-is : (k : ℕ) → k < caps .cells → marksIn w caps k ≡ s .at k .marks
-  unfolding marksIn
-  marks-is k h =
-      rw (code-read w caps s p k h, ← u .fitting k)
-      (marks-read w caps s p k h (omega (arith, u .fitting k, four-marks (s .at k .code))))
-
   -- a twin by the records is one by the map
   twin-is : (c k : ℕ) → c < caps .cells → k < caps .cells → twinIn w caps c k ≡ twinOf (mapWith caps s) c k
   unfolding twinIn twinOf mapWith
-  twin-is c k hc hk = rw (marks-is c hc, marks-is k hk, code-read w caps s p c hc, code-read w caps s p k hk)
+  twin-is c k hc hk = rw (marks-is w caps s p c hc (u .fitting c), marks-is w caps s p k hk (u .fitting k), code-read w caps s p c hc, code-read w caps s p k hk)
 
   -- a live cell has a first mark, one of the mesh
   first-inside : (c : ℕ) → (s .at c .code ≡ 0 → ⊥) → getD (s .at c .marks) 0 0 < caps .marks

@@ -20,39 +20,30 @@ Inv-loop w caps c marks i₀ i = (i ≤ length marks) × (all (linkedIn w caps c
 abbrev μ-loop : tie.MeasureT-loop
 μ-loop w caps c marks i₀ i = length marks - i
 
--- src/lib.rt:131:5
 loop-holds : tie.Need-loop-holds Inv-loop μ-loop
 loop-holds c = (search needs, refl)
 
--- src/lib.rt:132:32
 mul-linked : tie.Need-mul-linked Inv-loop μ-loop
 mul-linked c = search needs
 
--- src/lib.rt:132:32
 shared-slice-read-linked : tie.Need-shared-slice-read-linked Inv-loop μ-loop
 shared-slice-read-linked c = search needs
 
--- src/lib.rt:132:13
 linked-requires : tie.Need-linked-requires Inv-loop μ-loop
 linked-requires c κs = search needs
 
--- src/lib.rt:133:13
 returns : tie.Need-returns Inv-loop μ-loop
 returns c = all-stop _ _ (c .before .before .before .before .loop .i) (c .before .before .before .before .loop .inv .1) (sym (c .before .linked .ensures) ∙ not-true _ (c .if1 .taken)) (omega arith)
 
--- src/lib.rt:135:9
 add-i : tie.Need-add-i Inv-loop μ-loop
 add-i c = search needs
 
--- src/lib.rt:131:5
 loop-less : tie.Need-loop-less Inv-loop μ-loop
 loop-less c = search needs
 
--- src/lib.rt:131:5
 loop-again : tie.Need-loop-again Inv-loop μ-loop
 loop-again c = (omega arith, all-go _ _ (c .before .before .before .before .loop .i) (c .before .before .before .before .loop .inv .1) (sym (c .before .linked .ensures) ∙ not-false _ (c .if1 .left)) (omega arith))
 
--- src/lib.rt:127:1
 returns-2 : tie.Need-returns-2 Inv-loop μ-loop
 returns-2 c = all-end _ _ (c .before .loop .i) (c .before .loop .inv .1) (omega arith)
 

@@ -21,40 +21,31 @@ Inv-loop w at n l i₀ i = (i ≤ length l) × (all (λ x. eqb x 0) l ≡ all (�
 abbrev μ-loop : tie.MeasureT-loop
 μ-loop w at n l i₀ i = length l - i
 
--- src/lib.rt:30:9
 part-requires : tie.Need-part-requires Inv-loop μ-loop
 part-requires c κs = search needs
 
--- src/lib.rt:32:5
 loop-holds : tie.Need-loop-holds Inv-loop μ-loop
 loop-holds c = (omega arith, refl)
 
--- src/lib.rt:33:12
 mul-if1 : tie.Need-mul-if1 Inv-loop μ-loop
 mul-if1 c = search needs
 
--- src/lib.rt:33:12
 shared-slice-read-if1 : tie.Need-shared-slice-read-if1 Inv-loop μ-loop
 shared-slice-read-if1 c = search needs
 
--- src/lib.rt:34:13
 returns : tie.Need-returns Inv-loop μ-loop
 unfolding blankIn
 returns c = rw (← c .before .before .before .before .part .ensures .words) (all-stop (λ x. eqb x 0) _ (c .before .before .before .loop .i) (c .before .before .before .loop .inv .1) (ne-eqb _ _ (c .if1 .taken)) (omega arith))
 
--- src/lib.rt:36:9
 add-i : tie.Need-add-i Inv-loop μ-loop
 add-i c = search needs
 
--- src/lib.rt:32:5
 loop-less : tie.Need-loop-less Inv-loop μ-loop
 loop-less c = search needs
 
--- src/lib.rt:32:5
 loop-again : tie.Need-loop-again Inv-loop μ-loop
 loop-again c = (omega arith, all-go (λ x. eqb x 0) _ (c .before .before .before .loop .i) (c .before .before .before .loop .inv .1) (eq-eqb _ _ (c .if1 .left)) (omega arith))
 
--- src/lib.rt:27:1
 returns-2 : tie.Need-returns-2 Inv-loop μ-loop
 unfolding blankIn
 returns-2 c = rw (← c .before .before .part .ensures .words) (all-end (λ x. eqb x 0) _ (c .before .loop .i) (c .before .loop .inv .1) (omega arith))

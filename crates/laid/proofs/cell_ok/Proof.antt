@@ -1,5 +1,6 @@
+use Rattle.lists.proofs.Bools.{and-no, and-yes}
 use Rattle.laid.specs.Laid.{cellIn}
-use Rattle.laid.proofs.Steps.{and-no, and-yes, marks-words}
+use Rattle.laid.proofs.Steps.{marks-words}
 use borrow.Author.Tests.{not-true, not-false}
 use mathlib.Core.Bool.{Bool, true, false, not}
 use mathlib.Core.Path.{_≡_, refl, sym, ap, _∙_}
@@ -12,24 +13,19 @@ use Rattle.laid.proofs.all_linked.Reads as all-linked-reads
 use Rattle.laid.proofs.marks_at.Reads as marks-at-reads
 use Rattle.laid.proofs.record_ok.Reads as record-ok-reads
 
--- src/lib.rt:144:9
 record-ok-requires : tie.Need-record-ok-requires
 record-ok-requires c κs = search needs
 
--- src/lib.rt:145:9
 returns : tie.Need-returns
 unfolding cellIn
 returns c = and-no _ _ (sym (c .before .record-ok .ensures) ∙ not-true _ (c .if1 .taken))
 
--- src/lib.rt:147:28
 marks-at-requires : tie.Need-marks-at-requires
 marks-at-requires c κs = search needs
 
--- src/lib.rt:147:5
 all-linked-requires : tie.Need-all-linked-requires
 all-linked-requires c κs = search needs
 
--- src/lib.rt:141:1
 returns-2 : tie.Need-returns-2
 unfolding cellIn
 returns-2 c = and-yes _ _ _ (sym (c .before .before .before .record-ok .ensures) ∙ not-false _ (c .before .before .if1 .left)) (rw (← marks-words (c .before .marks-at .ensures)) (c .all-linked .ensures))

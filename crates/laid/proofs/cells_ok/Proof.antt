@@ -19,31 +19,24 @@ Inv-loop w caps c₀ c = (c ≤ caps .cells) × (every c (cellIn w caps) ≡ tru
 abbrev μ-loop : tie.MeasureT-loop
 μ-loop w caps c₀ c = caps .cells - c
 
--- src/lib.rt:217:5
 loop-holds : tie.Need-loop-holds Inv-loop μ-loop
 loop-holds c = (omega arith, every-start _)
 
--- src/lib.rt:218:13
 cell-ok-requires : tie.Need-cell-ok-requires Inv-loop μ-loop
 cell-ok-requires c κs = search needs
 
--- src/lib.rt:219:13
 returns : tie.Need-returns Inv-loop μ-loop
 returns c = every-stop _ _ (c .before .before .before .before .loop .c) (omega arith) (sym (c .before .cell-ok .ensures) ∙ not-true _ (c .if2 .taken))
 
--- src/lib.rt:221:9
 add-c : tie.Need-add-c Inv-loop μ-loop
 add-c c = search needs
 
--- src/lib.rt:217:5
 loop-less : tie.Need-loop-less Inv-loop μ-loop
 loop-less c = search needs
 
--- src/lib.rt:217:5
 loop-again : tie.Need-loop-again Inv-loop μ-loop
 loop-again c = (omega arith, every-more _ (c .before .before .before .before .loop .c) (c .before .before .before .before .loop .inv .1) (sym (c .before .cell-ok .ensures) ∙ not-false _ (c .if2 .left)))
 
--- src/lib.rt:213:1
 returns-2 : tie.Need-returns-2 Inv-loop μ-loop
 returns-2 c = every-end _ _ (c .before .before .loop .c) (c .before .before .loop .inv .1) (omega arith) (omega arith)
 

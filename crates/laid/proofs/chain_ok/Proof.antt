@@ -19,59 +19,45 @@ Inv-loop w caps v count link₀ low₀ n₀ link low n = (n ≤ 128) × Going w 
 abbrev μ-loop : tie.MeasureT-loop
 μ-loop w caps v count link₀ low₀ n₀ link low n = 128 - n
 
--- src/lib.rt:167:9
 mark-word-requires : tie.Need-mark-word-requires Inv-loop μ-loop
 mark-word-requires c κs = search needs
 
--- src/lib.rt:168:9
 mark-word-requires-2 : tie.Need-mark-word-requires-2 Inv-loop μ-loop
 mark-word-requires-2 c κs = search needs
 
--- src/lib.rt:171:5
 loop-holds : tie.Need-loop-holds Inv-loop μ-loop
 loop-holds c = (omega arith, go-start _ _ _ _ (c .mark-word2 .ensures))
 
--- src/lib.rt:173:13
 returns : tie.Need-returns Inv-loop μ-loop
 returns c = go-end _ _ _ (c .before .before .loop .n) _ (c .before .before .loop .low) _ (c .before .before .loop .inv .1) (c .if1 .taken) (c .before .before .before .before .mark-word .ensures)
 
--- src/lib.rt:175:37
 sub-stands : tie.Need-sub-stands Inv-loop μ-loop
 sub-stands c = search needs
 
--- src/lib.rt:175:13
 stands-requires : tie.Need-stands-requires Inv-loop μ-loop
 stands-requires c κs = search needs
 
--- src/lib.rt:176:13
 returns-2 : tie.Need-returns-2 Inv-loop μ-loop
 returns-2 c = go-no _ _ _ (c .before .before .before .before .loop .n) (c .before .before .before .before .loop .link) (c .before .before .before .before .loop .low) (c .before .before .before .before .loop .inv .1) (omega arith) (omega arith) (sym (c .before .stands .ensures) ∙ not-true _ (c .if2 .taken))
 
--- src/lib.rt:179:36
 sub-link-after : tie.Need-sub-link-after Inv-loop μ-loop
 sub-link-after c = search needs
 
--- src/lib.rt:179:9
 link-after-requires : tie.Need-link-after-requires Inv-loop μ-loop
 link-after-requires c κs = search needs
 
--- src/lib.rt:180:9
 add-n : tie.Need-add-n Inv-loop μ-loop
 add-n c = search needs
 
--- src/lib.rt:171:5
 loop-less : tie.Need-loop-less Inv-loop μ-loop
 loop-less c = search needs
 
--- src/lib.rt:171:5
 loop-again : tie.Need-loop-again Inv-loop μ-loop
 loop-again c = (omega arith, go-more _ _ _ (c .before .before .before .before .before .loop .n) (c .before .before .before .before .before .loop .link) (c .before .before .before .before .before .loop .low) _ (c .before .before .before .before .before .loop .inv .1) (omega arith) (omega arith) (sym (c .before .before .stands .ensures) ∙ not-false _ (c .before .if2 .left)) (c .link-after .ensures))
 
--- src/lib.rt:183:9
 returns-3 : tie.Need-returns-3 Inv-loop μ-loop
 returns-3 c = go-full _ _ _ (c .before .before .loop .n) (c .before .before .loop .link) (c .before .before .loop .low) (c .before .before .loop .inv .1) (omega arith) (omega arith)
 
--- src/lib.rt:164:1
 returns-4 : tie.Need-returns-4 Inv-loop μ-loop
 returns-4 c = go-end _ _ _ (c .before .before .loop .n) _ (c .before .before .loop .low) _ (c .before .before .loop .inv .1) (omega arith) (c .before .before .before .before .mark-word .ensures)
 

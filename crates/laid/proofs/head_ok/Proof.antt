@@ -1,5 +1,5 @@
+use Rattle.lists.proofs.Bools.{and-no, and-yes}
 use Rattle.laid.specs.Laid.{headIn}
-use Rattle.laid.proofs.Steps.{and-no, and-yes}
 use borrow.Author.Tests.{not-true, not-false}
 use mathlib.Core.Bool.{Bool, true, false, not}
 use mathlib.Core.Path.{_≡_, refl, sym, ap, _∙_}
@@ -10,20 +10,16 @@ use Rattle.laid.proofs.head_ok.Reads as reads
 use Rattle.laid.proofs.head_ok.Lts as lts
 use Rattle.laid.proofs.blank.Reads as blank-reads
 
--- src/lib.rt:230:9
 blank-requires : tie.Need-blank-requires
 blank-requires c κs = search needs
 
--- src/lib.rt:231:9
 returns : tie.Need-returns
 unfolding headIn
 returns c = and-no _ _ (sym (c .before .blank .ensures) ∙ not-true _ (c .if1 .taken))
 
--- src/lib.rt:233:5
 blank-requires-2 : tie.Need-blank-requires-2
 blank-requires-2 c κs = search needs
 
--- src/lib.rt:227:1
 returns-2 : tie.Need-returns-2
 unfolding headIn
 returns-2 c = and-yes _ _ _ (sym (c .before .before .blank .ensures) ∙ not-false _ (c .before .if1 .left)) (c .blank2 .ensures)

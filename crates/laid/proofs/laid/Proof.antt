@@ -1,5 +1,5 @@
+use Rattle.lists.proofs.Bools.{and-no, and-yes}
 use Rattle.laid.specs.Laid.{laidIn}
-use Rattle.laid.proofs.Steps.{and-no, and-yes}
 use borrow.Author.Tests.{not-true, not-false}
 use mathlib.Core.Bool.{Bool, true, false, not}
 use mathlib.Core.Path.{_≡_, refl, sym, ap, _∙_}
@@ -12,29 +12,23 @@ use Rattle.laid.proofs.cells_ok.Reads as cells-ok-reads
 use Rattle.laid.proofs.head_ok.Reads as head-ok-reads
 use Rattle.laid.proofs.marks_ok.Reads as marks-ok-reads
 
--- src/lib.rt:240:9
 head-ok-requires : tie.Need-head-ok-requires
 head-ok-requires c κs = search needs
 
--- src/lib.rt:241:9
 returns : tie.Need-returns
 unfolding laidIn
 returns c = and-no _ _ (sym (c .before .head-ok .ensures) ∙ not-true _ (c .if1 .taken))
 
--- src/lib.rt:243:9
 marks-ok-requires : tie.Need-marks-ok-requires
 marks-ok-requires c κs = search needs
 
--- src/lib.rt:244:9
 returns-2 : tie.Need-returns-2
 unfolding laidIn
 returns-2 c = and-yes _ _ _ (sym (c .before .before .before .head-ok .ensures) ∙ not-false _ (c .before .before .if1 .left)) (and-no _ _ (sym (c .before .marks-ok .ensures) ∙ not-true _ (c .if2 .taken)))
 
--- src/lib.rt:246:5
 cells-ok-requires : tie.Need-cells-ok-requires
 cells-ok-requires c κs = search needs
 
--- src/lib.rt:237:1
 returns-3 : tie.Need-returns-3
 unfolding laidIn
 returns-3 c = and-yes _ _ _ (sym (c .before .before .before .before .head-ok .ensures) ∙ not-false _ (c .before .before .before .if1 .left)) (and-yes _ _ _ (sym (c .before .before .marks-ok .ensures) ∙ not-false _ (c .before .if2 .left)) (c .cells-ok .ensures))

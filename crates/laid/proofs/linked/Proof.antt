@@ -16,47 +16,36 @@ Inv-loop w caps c v link₀ n₀ link n = (n ≤ 128) × Looking w caps c v n li
 abbrev μ-loop : tie.MeasureT-loop
 μ-loop w caps c v link₀ n₀ link n = 128 - n
 
--- src/lib.rt:111:9
 mark-word-requires : tie.Need-mark-word-requires Inv-loop μ-loop
 mark-word-requires c κs = search needs
 
--- src/lib.rt:113:5
 loop-holds : tie.Need-loop-holds Inv-loop μ-loop
 loop-holds c = (omega arith, look-start _ _ _ _ _ (c .mark-word .ensures))
 
--- src/lib.rt:115:13
 returns : tie.Need-returns Inv-loop μ-loop
 returns c = look-none _ _ _ _ (c .before .before .loop .n) _ (c .before .before .loop .inv .1) (c .if1 .taken)
 
--- src/lib.rt:117:12
 sub-if2 : tie.Need-sub-if2 Inv-loop μ-loop
 sub-if2 c = search needs
 
--- src/lib.rt:118:13
 returns-2 : tie.Need-returns-2 Inv-loop μ-loop
 returns-2 c = look-here _ _ _ _ (c .before .before .before .loop .n) _ (c .before .before .before .loop .inv .1) (omega arith) (omega arith) (c .if2 .taken)
 
--- src/lib.rt:120:36
 sub-link-after : tie.Need-sub-link-after Inv-loop μ-loop
 sub-link-after c = search needs
 
--- src/lib.rt:120:9
 link-after-requires : tie.Need-link-after-requires Inv-loop μ-loop
 link-after-requires c κs = search needs
 
--- src/lib.rt:121:9
 add-n : tie.Need-add-n Inv-loop μ-loop
 add-n c = search needs
 
--- src/lib.rt:113:5
 loop-less : tie.Need-loop-less Inv-loop μ-loop
 loop-less c = search needs
 
--- src/lib.rt:113:5
 loop-again : tie.Need-loop-again Inv-loop μ-loop
 loop-again c = (omega arith, look-more _ _ _ _ (c .before .before .before .before .loop .n) (c .before .before .before .before .loop .link) _ (c .before .before .before .before .loop .inv .1) (omega arith) (omega arith) (omega arith) (c .link-after .ensures))
 
--- src/lib.rt:108:1
 returns-3 : tie.Need-returns-3 Inv-loop μ-loop
 returns-3 c = look-full _ _ _ _ (c .before .loop .n) _ (c .before .loop .inv .1) (omega arith)
 

@@ -10,47 +10,36 @@ use Rattle.shapes.proofs.mark_count.Reads as mark-count-reads
 use Rattle.store.proofs.cell_word.Reads as cell-word-reads
 use Rattle.words.proofs.part.Reads as part-reads
 
--- src/lib.rt:45:24
 cell-word-requires : tie.Need-cell-word-requires
 cell-word-requires c κs = search needs
 
--- src/lib.rt:45:9
 mark-count-requires : tie.Need-mark-count-requires
 mark-count-requires c κs = search needs
 
--- src/lib.rt:48:19
 cast-part : tie.Need-cast-part
 cast-part c = search needs
 
--- src/lib.rt:48:14
 mul-part : tie.Need-mul-part
 mul-part c = search needs
 
--- src/lib.rt:48:9
 add-part : tie.Need-add-part
 add-part c = search needs
 
--- src/lib.rt:48:42
 mul-part-2 : tie.Need-mul-part-2
 mul-part-2 c = search needs
 
--- src/lib.rt:48:9
 add-part-2 : tie.Need-add-part-2
 add-part-2 c = search needs
 
--- src/lib.rt:48:9
 add-part-3 : tie.Need-add-part-3
 add-part-3 c = search needs
 
--- src/lib.rt:49:9
 cast-part-2 : tie.Need-cast-part-2
 cast-part-2 c = search needs
 
--- src/lib.rt:46:5
 part-requires : tie.Need-part-requires
 part-requires c κs = search needs
 
--- src/lib.rt:42:1
 returns : tie.Need-returns
 unfolding codeIn cellAt
 returns c = record { part = rw (← c .before .before .before .cell-word .ensures, ← c .before .before .mark-count .ensures) (c .part .ensures) }

@@ -19,31 +19,24 @@ Inv-loop w caps v₀ v = (v ≤ caps .marks) × (every v (markIn w caps) ≡ tru
 abbrev μ-loop : tie.MeasureT-loop
 μ-loop w caps v₀ v = caps .marks - v
 
--- src/lib.rt:203:5
 loop-holds : tie.Need-loop-holds Inv-loop μ-loop
 loop-holds c = (omega arith, every-start _)
 
--- src/lib.rt:204:13
 mark-ok-requires : tie.Need-mark-ok-requires Inv-loop μ-loop
 mark-ok-requires c κs = search needs
 
--- src/lib.rt:205:13
 returns : tie.Need-returns Inv-loop μ-loop
 returns c = every-stop _ _ (c .before .before .before .before .loop .v) (omega arith) (sym (c .before .mark-ok .ensures) ∙ not-true _ (c .if2 .taken))
 
--- src/lib.rt:207:9
 add-v : tie.Need-add-v Inv-loop μ-loop
 add-v c = search needs
 
--- src/lib.rt:203:5
 loop-less : tie.Need-loop-less Inv-loop μ-loop
 loop-less c = search needs
 
--- src/lib.rt:203:5
 loop-again : tie.Need-loop-again Inv-loop μ-loop
 loop-again c = (omega arith, every-more _ (c .before .before .before .before .loop .v) (c .before .before .before .before .loop .inv .1) (sym (c .before .mark-ok .ensures) ∙ not-false _ (c .if2 .left)))
 
--- src/lib.rt:199:1
 returns-2 : tie.Need-returns-2 Inv-loop μ-loop
 returns-2 c = every-end _ _ (c .before .before .loop .v) (c .before .before .loop .inv .1) (omega arith) (omega arith)
 

@@ -1,6 +1,7 @@
+use Rattle.lists.proofs.Bools.{and-no, and-yes}
 use Rattle.laid.specs.Laid.{recordIn}
 use Rattle.facet.specs.Facet.{codeIn}
-use Rattle.laid.proofs.Steps.{and-no, and-yes, marks-words}
+use Rattle.laid.proofs.Steps.{marks-words}
 use borrow.Author.Tests.{not-true, not-false}
 use mathlib.Core.Bool.{Bool, true, false, not}
 use mathlib.Core.Path.{_≡_, refl, sym, ap, _∙_}
@@ -15,37 +16,29 @@ use Rattle.laid.proofs.rest.Reads as rest-reads
 use Rattle.laid.proofs.typed.Reads as typed-reads
 use Rattle.store.proofs.cell_word.Reads as cell-word-reads
 
--- src/lib.rt:97:9
 cell-word-requires : tie.Need-cell-word-requires
 cell-word-requires c κs = search needs
 
--- src/lib.rt:98:9
 typed-requires : tie.Need-typed-requires
 typed-requires c κs = search needs
 
--- src/lib.rt:99:9
 returns : tie.Need-returns
 unfolding recordIn codeIn
 returns c = rw (← c .before .before .cell-word .ensures) (and-no _ _ (sym (c .before .typed .ensures) ∙ not-true _ (c .if1 .taken)))
 
--- src/lib.rt:101:20
 marks-at-requires : tie.Need-marks-at-requires
 marks-at-requires c κs = search needs
 
--- src/lib.rt:101:9
 fine-requires : tie.Need-fine-requires
 fine-requires c κs = search needs
 
--- src/lib.rt:102:9
 returns-2 : tie.Need-returns-2
 unfolding recordIn codeIn
 returns-2 c = rw (← c .before .before .before .before .before .cell-word .ensures, ← marks-words (c .before .before .marks-at .ensures)) (and-yes _ _ _ (sym (c .before .before .before .before .typed .ensures) ∙ not-false _ (c .before .before .before .if1 .left)) (and-no _ _ (sym (c .before .fine .ensures) ∙ not-true _ (c .if2 .taken))))
 
--- src/lib.rt:104:5
 rest-requires : tie.Need-rest-requires
 rest-requires c κs = search needs
 
--- src/lib.rt:94:1
 returns-3 : tie.Need-returns-3
 unfolding recordIn codeIn
 returns-3 c = rw (← c .before .before .before .before .before .before .cell-word .ensures, ← marks-words (c .before .before .before .marks-at .ensures)) (and-yes _ _ _ (sym (c .before .before .before .before .before .typed .ensures) ∙ not-false _ (c .before .before .before .before .if1 .left)) (and-yes _ _ _ (sym (c .before .before .fine .ensures) ∙ not-false _ (c .before .if2 .left)) (c .rest .ensures)))

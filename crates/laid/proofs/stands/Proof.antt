@@ -2,8 +2,9 @@ use mathlib.Core.Path.{_≡_, refl, sym, ap, _∙_}
 use mathlib.Core.Bool.{Bool, true, false, not}
 use native.Mathlib.Omega.{arith}
 use borrow.Author.Tests.{le-leb, lt-leb, lt-ltb, le-ltb}
+use Rattle.lists.proofs.Bools.{and-no, and-yes}
 use Rattle.laid.specs.Laid.{standsIn}
-use Rattle.laid.proofs.Steps.{and-no, and-yes, marks-words}
+use Rattle.laid.proofs.Steps.{marks-words}
 use borrow.Author.Needs.{needs}
 use Rattle.laid.proofs.stands.Statement.{statement}
 use Rattle.laid.proofs.stands.Tie as tie
@@ -12,25 +13,20 @@ use Rattle.laid.proofs.stands.Lts as lts
 use Rattle.laid.proofs.marks_at.Reads as marks-at-reads
 use Rattle.lists.proofs.has.Reads as has-reads
 
--- src/lib.rt:155:9
 returns : tie.Need-returns
 unfolding standsIn
 returns c = and-no _ _ (lt-leb _ _ (c .if1 .taken))
 
--- src/lib.rt:158:9
 returns-2 : tie.Need-returns-2
 unfolding standsIn
 returns-2 c = and-yes _ _ _ (le-leb _ _ (c .before .before .if1 .left)) (and-no _ _ (le-ltb _ _ (c .if2 .taken)))
 
--- src/lib.rt:160:9
 marks-at-requires : tie.Need-marks-at-requires
 marks-at-requires c κs = search needs
 
--- src/lib.rt:160:5
 has-requires : tie.Need-has-requires
 has-requires c κs = search needs
 
--- src/lib.rt:151:1
 returns-3 : tie.Need-returns-3
 unfolding standsIn
 returns-3 c = and-yes _ _ _ (le-leb _ _ (c .before .before .before .before .if1 .left)) (and-yes _ _ _ (lt-ltb _ _ (c .before .before .if2 .left)) (rw (← marks-words (c .before .marks-at .ensures)) (c .has .ensures)))

@@ -9,16 +9,13 @@ use Rattle.laid.proofs.typed.Reads as reads
 use Rattle.laid.proofs.typed.Lts as lts
 use Rattle.shapes.proofs.dimension.Reads as dimension-reads
 
--- src/lib.rt:58:9
 returns : tie.Need-returns
 unfolding typedIn
 returns c = rw (eq-eqb _ _ (c .if1 .taken))
 
--- src/lib.rt:60:9
 dimension-requires : tie.Need-dimension-requires
 dimension-requires c κs = search needs
 
--- src/lib.rt:54:1
 returns-2 : tie.Need-returns-2
 unfolding typedIn
 returns-2 c = rw (ne-eqb _ _ (c .before .if1 .left), c .dimension .ensures)

@@ -18,31 +18,24 @@ Inv-loop w caps rows v₀ v = (v ≤ caps .marks) × SeesTo w caps (SettledBy ca
 abbrev μ-loop : tie.MeasureT-loop
 μ-loop w caps rows v₀ v = caps .marks - v
 
--- src/lib.rt:168:5
 loop-holds : tie.Need-loop-holds Inv-loop μ-loop
 loop-holds c = (omega arith, sees-start _ _ _ _)
 
--- src/lib.rt:169:13
 anchors-ok-requires : tie.Need-anchors-ok-requires Inv-loop μ-loop
 anchors-ok-requires c κs = search needs
 
--- src/lib.rt:170:13
 returns : tie.Need-returns Inv-loop μ-loop
 returns c = sees-stop _ _ _ _ _ (c .before .before .before .before .loop .v) _ (omega arith) (c .before .anchors-ok .ensures) (not-true _ (c .if2 .taken))
 
--- src/lib.rt:172:9
 add-v : tie.Need-add-v Inv-loop μ-loop
 add-v c = search needs
 
--- src/lib.rt:168:5
 loop-less : tie.Need-loop-less Inv-loop μ-loop
 loop-less c = search needs
 
--- src/lib.rt:168:5
 loop-again : tie.Need-loop-again Inv-loop μ-loop
 loop-again c = (omega arith, sees-more _ _ _ _ _ (c .before .before .before .before .loop .v) _ (omega arith) (c .before .anchors-ok .ensures) (c .before .before .before .before .loop .inv .1) (not-false _ (c .if2 .left)))
 
--- src/lib.rt:164:1
 returns-2 : tie.Need-returns-2 Inv-loop μ-loop
 returns-2 c = sees-end _ _ _ _ _ (c .before .before .loop .v) (c .before .before .loop .inv .1) (omega arith) (omega arith)
 

@@ -20,31 +20,24 @@ Inv-loop w caps c₀ c = (c ≤ caps .cells) × SeesTo w caps (Upright caps) (λ
 abbrev μ-loop : tie.MeasureT-loop
 μ-loop w caps c₀ c = caps .cells - c
 
--- src/lib.rt:78:5
 loop-holds : tie.Need-loop-holds Inv-loop μ-loop
 loop-holds c = (omega arith, sees-start _ _ _ _)
 
--- src/lib.rt:79:13
 lone-requires : tie.Need-lone-requires Inv-loop μ-loop
 lone-requires c κs = search needs
 
--- src/lib.rt:80:13
 returns : tie.Need-returns Inv-loop μ-loop
 returns c = sees-stop _ _ _ _ _ (c .before .before .before .before .loop .c) _ (omega arith) (c .before .lone .ensures) (not-true _ (c .if2 .taken))
 
--- src/lib.rt:82:9
 add-c : tie.Need-add-c Inv-loop μ-loop
 add-c c = search needs
 
--- src/lib.rt:78:5
 loop-less : tie.Need-loop-less Inv-loop μ-loop
 loop-less c = search needs
 
--- src/lib.rt:78:5
 loop-again : tie.Need-loop-again Inv-loop μ-loop
 loop-again c = (omega arith, sees-more _ _ _ _ _ (c .before .before .before .before .loop .c) _ (omega arith) (c .before .lone .ensures) (c .before .before .before .before .loop .inv .1) (not-false _ (c .if2 .left)))
 
--- src/lib.rt:74:1
 returns-2 : tie.Need-returns-2 Inv-loop μ-loop
 returns-2 c = sees-end _ _ _ _ _ (c .before .before .loop .c) (c .before .before .loop .inv .1) (omega arith) (omega arith)
 

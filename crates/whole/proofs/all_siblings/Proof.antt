@@ -18,31 +18,24 @@ Inv-loop w caps rows c₀ c = (c ≤ caps .cells) × SeesTo w caps (Readied caps
 abbrev μ-loop : tie.MeasureT-loop
 μ-loop w caps rows c₀ c = caps .cells - c
 
--- src/lib.rt:140:5
 loop-holds : tie.Need-loop-holds Inv-loop μ-loop
 loop-holds c = (omega arith, sees-start _ _ _ _)
 
--- src/lib.rt:141:13
 siblings-ok-requires : tie.Need-siblings-ok-requires Inv-loop μ-loop
 siblings-ok-requires c κs = search needs
 
--- src/lib.rt:142:13
 returns : tie.Need-returns Inv-loop μ-loop
 returns c = sees-stop _ _ _ _ _ (c .before .before .before .before .loop .c) _ (omega arith) (c .before .siblings-ok .ensures) (not-true _ (c .if2 .taken))
 
--- src/lib.rt:144:9
 add-c : tie.Need-add-c Inv-loop μ-loop
 add-c c = search needs
 
--- src/lib.rt:140:5
 loop-less : tie.Need-loop-less Inv-loop μ-loop
 loop-less c = search needs
 
--- src/lib.rt:140:5
 loop-again : tie.Need-loop-again Inv-loop μ-loop
 loop-again c = (omega arith, sees-more _ _ _ _ _ (c .before .before .before .before .loop .c) _ (omega arith) (c .before .siblings-ok .ensures) (c .before .before .before .before .loop .inv .1) (not-false _ (c .if2 .left)))
 
--- src/lib.rt:136:1
 returns-2 : tie.Need-returns-2 Inv-loop μ-loop
 returns-2 c = sees-end _ _ _ _ _ (c .before .before .loop .c) (c .before .before .loop .inv .1) (omega arith) (omega arith)
 

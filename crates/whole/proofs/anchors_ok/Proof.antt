@@ -21,44 +21,34 @@ Inv-loop w caps rows v d₀ d = (d ≤ 3) × SeesTo w caps (λ s. SettledBy caps
 abbrev μ-loop : tie.MeasureT-loop
 μ-loop w caps rows v d₀ d = 3 - d
 
--- src/lib.rt:154:5
 loop-holds : tie.Need-loop-holds Inv-loop μ-loop
 loop-holds c = (omega arith, sees-start _ _ _ _)
 
--- src/lib.rt:155:28
 add-mark-word : tie.Need-add-mark-word Inv-loop μ-loop
 add-mark-word c = search needs
 
--- src/lib.rt:155:12
 mark-word-requires : tie.Need-mark-word-requires Inv-loop μ-loop
 mark-word-requires c κs = search needs
 
--- src/lib.rt:155:69
 add-first-anchor-of : tie.Need-add-first-anchor-of Inv-loop μ-loop
 add-first-anchor-of c = search needs
 
--- src/lib.rt:155:38
 first-anchor-of-requires : tie.Need-first-anchor-of-requires Inv-loop μ-loop
 first-anchor-of-requires c κs = search needs
 
--- src/lib.rt:156:13
 returns : tie.Need-returns Inv-loop μ-loop
 unfolding ancsRight
 returns c = sees-stop _ _ _ _ 3 (c .before .before .before .before .loop .d) _ (omega arith) (anchor-held _ _ _ _ _ (omega arith) _ _ (c .before .before .mark-word .ensures) (c .before .first-anchor-of .ensures)) (ne-eqb _ _ (c .if1 .taken))
 
--- src/lib.rt:158:9
 add-d : tie.Need-add-d Inv-loop μ-loop
 add-d c = search needs
 
--- src/lib.rt:154:5
 loop-less : tie.Need-loop-less Inv-loop μ-loop
 loop-less c = search needs
 
--- src/lib.rt:154:5
 loop-again : tie.Need-loop-again Inv-loop μ-loop
 loop-again c = (omega arith, sees-more _ _ _ _ 3 (c .before .before .before .before .loop .d) _ (omega arith) (anchor-held _ _ _ _ _ (omega arith) _ _ (c .before .before .mark-word .ensures) (c .before .first-anchor-of .ensures)) (c .before .before .before .before .loop .inv .1) (eq-eqb _ _ (c .if1 .left)))
 
--- src/lib.rt:150:1
 returns-2 : tie.Need-returns-2 Inv-loop μ-loop
 unfolding ancsRight
 returns-2 c = sees-end _ _ _ _ 3 (c .before .loop .d) (c .before .loop .inv .1) (omega arith) (omega arith)

@@ -17,31 +17,24 @@ Inv-loop w caps t n₀ c₀ n c = (c ≤ caps .cells) × Counted w caps t c n
 abbrev μ-loop : tie.MeasureT-loop
 μ-loop w caps t n₀ c₀ n c = caps .cells - c
 
--- src/lib.rt:183:5
 loop-holds : tie.Need-loop-holds Inv-loop μ-loop
 loop-holds c = (omega arith, counted-start _ _ _)
 
--- src/lib.rt:184:12
 cell-word-requires : tie.Need-cell-word-requires Inv-loop μ-loop
 cell-word-requires c κs = search needs
 
--- src/lib.rt:185:13
 add-n : tie.Need-add-n Inv-loop μ-loop
 add-n c = omega (arith, counted-few _ _ _ (c .before .before .before .before .loop .c) (c .before .before .before .before .loop .n) (c .before .before .before .before .loop .inv .1))
 
--- src/lib.rt:187:9
 add-c : tie.Need-add-c Inv-loop μ-loop
 add-c c = search needs
 
--- src/lib.rt:183:5
 loop-less : tie.Need-loop-less Inv-loop μ-loop
 loop-less c = search needs
 
--- src/lib.rt:183:5
 loop-again : tie.Need-loop-again Inv-loop μ-loop
 loop-again c = (omega arith, ⊎-elim (λ b. counted-more _ _ _ (c .before .before .before .before .loop .c) (c .before .before .before .before .loop .n) _ _ (c .before .before .before .before .loop .inv .1) (c .before .cell-word .ensures) (b .0 .taken) (b .1)) (λ b. counted-same _ _ _ (c .before .before .before .before .loop .c) (c .before .before .before .before .loop .n) _ _ (c .before .before .before .before .loop .inv .1) (c .before .cell-word .ensures) (b .0 .left) (b .1)) (c .if2 .came))
 
--- src/lib.rt:178:1
 returns : tie.Need-returns Inv-loop μ-loop
 returns c = counted-end _ _ _ (c .before .before .loop .c) _ (c .before .before .loop .inv .1) (omega arith) (omega arith)
 

@@ -20,47 +20,36 @@ Inv-loop w caps t₀ t = (t ≤ 4) × (every t (countRight w caps) ≡ true)
 abbrev μ-loop : tie.MeasureT-loop
 μ-loop w caps t₀ t = 4 - t
 
--- src/lib.rt:197:5
 loop-holds : tie.Need-loop-holds Inv-loop μ-loop
 loop-holds c = (omega arith, every-start _)
 
--- src/lib.rt:198:25
 cast-word : tie.Need-cast-word Inv-loop μ-loop
 cast-word c = search needs
 
--- src/lib.rt:198:20
 add-word : tie.Need-add-word Inv-loop μ-loop
 add-word c = search needs
 
--- src/lib.rt:198:12
 word-requires : tie.Need-word-requires Inv-loop μ-loop
 word-requires c κs = search needs
 
--- src/lib.rt:198:56
 add-count : tie.Need-add-count Inv-loop μ-loop
 add-count c = search needs
 
--- src/lib.rt:198:41
 count-requires : tie.Need-count-requires Inv-loop μ-loop
 count-requires c κs = search needs
 
--- src/lib.rt:199:13
 returns : tie.Need-returns Inv-loop μ-loop
 returns c = every-stop _ _ (c .before .before .before .before .loop .t) (omega arith) (count-no _ _ (c .before .before .before .before .loop .t) _ _ (c .before .before .word .ensures) (c .before .count .ensures) (c .if1 .taken))
 
--- src/lib.rt:201:9
 add-t : tie.Need-add-t Inv-loop μ-loop
 add-t c = search needs
 
--- src/lib.rt:197:5
 loop-less : tie.Need-loop-less Inv-loop μ-loop
 loop-less c = search needs
 
--- src/lib.rt:197:5
 loop-again : tie.Need-loop-again Inv-loop μ-loop
 loop-again c = (omega arith, every-more _ (c .before .before .before .before .loop .t) (c .before .before .before .before .loop .inv .1) (count-yes _ _ (c .before .before .before .before .loop .t) _ _ (c .before .before .word .ensures) (c .before .count .ensures) (c .if1 .left)))
 
--- src/lib.rt:193:1
 returns-2 : tie.Need-returns-2 Inv-loop μ-loop
 returns-2 c = every-end _ _ (c .before .loop .t) (c .before .loop .inv .1) (omega arith) (omega arith)
 

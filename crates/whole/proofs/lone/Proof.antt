@@ -9,35 +9,27 @@ use Rattle.chain.proofs.gather.Reads as gather-reads
 use Rattle.store.proofs.cell_word.Reads as cell-word-reads
 use Rattle.whole.proofs.twins.Reads as twins-reads
 
--- src/lib.rt:64:8
 cell-word-requires : tie.Need-cell-word-requires
 cell-word-requires c κs = search needs
 
--- src/lib.rt:65:9
 returns : tie.Need-returns
 returns c = lone-none _ _ _ _ (c .before .cell-word .ensures) (c .if1 .taken)
 
--- src/lib.rt:67:9
 cell-word-requires-2 : tie.Need-cell-word-requires-2
 cell-word-requires-2 c κs = search needs
 
--- src/lib.rt:69:32
 slice-aggregate-gather : tie.Need-slice-aggregate-gather
 slice-aggregate-gather c = search needs
 
--- src/lib.rt:69:9
 gather-requires : tie.Need-gather-requires
 gather-requires c κs = search needs
 
--- src/lib.rt:70:24
 slice-aggregate-twins : tie.Need-slice-aggregate-twins
 slice-aggregate-twins c = search needs
 
--- src/lib.rt:70:6
 twins-requires : tie.Need-twins-requires
 twins-requires c κs = search needs
 
--- src/lib.rt:61:1
 returns-2 : tie.Need-returns-2
 returns-2 c = lone-some _ _ _ _ _ _ _ _ _ (c .before .before .before .before .before .before .before .cell-word .ensures) (c .before .before .before .before .before .before .if1 .left) (c .before .before .before .before .before .cell-word2 .ensures) (c .before .before .before .gather .ensures) refl (c .twins .ensures)
 

@@ -16,43 +16,33 @@ Inv-loop list n h i₀ i = (i ≤ n) × Above h (λ j. getD list j 0) i
 abbrev μ-loop : tie.MeasureT-loop
 μ-loop list n h i₀ i = n - i
 
--- src/lib.rt:92:5
 loop-holds : tie.Need-loop-holds Inv-loop μ-loop
 loop-holds c = (omega arith, above-start _ _)
 
--- src/lib.rt:93:28
 cast-word : tie.Need-cast-word Inv-loop μ-loop
 cast-word c = search needs
 
--- src/lib.rt:93:13
 word-requires : tie.Need-word-requires Inv-loop μ-loop
 word-requires c κs = search needs
 
--- src/lib.rt:95:13
 returns : tie.Need-returns Inv-loop μ-loop
 returns c = after-found _ _ (c .before .before .before .loop .i) _ _ (c .before .before .before .loop .inv .1) (c .before .word .ensures) (c .if1 .taken) (omega arith)
 
--- src/lib.rt:97:9
 add-i : tie.Need-add-i Inv-loop μ-loop
 add-i c = search needs
 
--- src/lib.rt:92:5
 loop-less : tie.Need-loop-less Inv-loop μ-loop
 loop-less c = search needs
 
--- src/lib.rt:92:5
 loop-again : tie.Need-loop-again Inv-loop μ-loop
 loop-again c = (omega arith, above-more _ _ (c .before .before .before .loop .i) _ (c .before .before .before .loop .inv .1) (c .before .word .ensures) (c .if1 .left))
 
--- src/lib.rt:100:9
 returns-2 : tie.Need-returns-2 Inv-loop μ-loop
 returns-2 c = after-none _ _ (c .before .before .loop .i) _ (c .before .before .loop .inv .1) (c .before .before .loop .inv .0) (omega arith) (c .if2 .taken)
 
--- src/lib.rt:102:5
 word-requires-2 : tie.Need-word-requires-2 Inv-loop μ-loop
 word-requires-2 c κs = search needs
 
--- src/lib.rt:88:1
 returns-3 : tie.Need-returns-3 Inv-loop μ-loop
 returns-3 c = after-first _ _ (c .before .before .before .loop .i) _ _ (c .before .before .before .loop .inv .1) (c .before .before .before .loop .inv .0) (omega arith) (c .before .if2 .left) (c .word2 .ensures)
 

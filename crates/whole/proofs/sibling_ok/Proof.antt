@@ -11,59 +11,45 @@ use Rattle.sibling.proofs.facet_sharers.Reads as facet-sharers-reads
 use Rattle.whole.proofs.next_in.Reads as next-in-reads
 use Rattle.words.proofs.word.Reads as word-reads
 
--- src/lib.rt:110:48
 slice-aggregate-facet-sharers : tie.Need-slice-aggregate-facet-sharers
 slice-aggregate-facet-sharers c = search needs
 
--- src/lib.rt:110:9
 facet-sharers-requires : tie.Need-facet-sharers-requires
 facet-sharers-requires c κs = search needs
 
--- src/lib.rt:111:9
 half-of-requires : tie.Need-half-of-requires
 half-of-requires c κs = search needs
 
--- src/lib.rt:112:24
 slice-aggregate-next-in : tie.Need-slice-aggregate-next-in
 slice-aggregate-next-in c = search needs
 
--- src/lib.rt:112:9
 next-in-requires : tie.Need-next-in-requires
 next-in-requires c κs = search needs
 
--- src/lib.rt:115:19
 cast-word : tie.Need-cast-word
 cast-word c = search needs
 
--- src/lib.rt:115:14
 mul-word : tie.Need-mul-word
 mul-word c = search needs
 
--- src/lib.rt:115:9
 add-word : tie.Need-add-word
 add-word c = search needs
 
--- src/lib.rt:115:42
 mul-word-2 : tie.Need-mul-word-2
 mul-word-2 c = search needs
 
--- src/lib.rt:115:9
 add-word-2 : tie.Need-add-word-2
 add-word-2 c = search needs
 
--- src/lib.rt:115:63
 add-word-3 : tie.Need-add-word-3
 add-word-3 c = search needs
 
--- src/lib.rt:115:9
 add-word-4 : tie.Need-add-word-4
 add-word-4 c = search needs
 
--- src/lib.rt:113:9
 word-requires : tie.Need-word-requires
 word-requires c κs = search needs
 
--- src/lib.rt:106:1
 returns : tie.Need-returns
 unfolding cellAt
 returns c = sibling-held _ _ _ _ _ _ _ _ _ _ _ (c .before .before .before .before .before .before .facet-sharers .ensures) refl (c .before .before .before .before .half-of .ensures) (c .before .before .next-in .ensures) (c .word .ensures)

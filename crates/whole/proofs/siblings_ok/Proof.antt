@@ -22,41 +22,32 @@ Inv-loop w caps rows c n f₀ f = ((f ≤ n) × (n ≡ facetCount (codeIn w caps
 abbrev μ-loop : tie.MeasureT-loop
 μ-loop w caps rows c n f₀ f = n - f
 
--- src/lib.rt:124:25
 cell-word-requires : tie.Need-cell-word-requires Inv-loop μ-loop
 cell-word-requires c κs = search needs
 
--- src/lib.rt:124:9
 facet-count-requires : tie.Need-facet-count-requires Inv-loop μ-loop
 facet-count-requires c κs = search needs
 
--- src/lib.rt:126:5
 loop-holds : tie.Need-loop-holds Inv-loop μ-loop
 unfolding codeIn
 loop-holds c = ((omega arith, c .facet-count .ensures ∙ ap facetCount (c .before .cell-word .ensures)), sees-start _ _ _ _)
 
--- src/lib.rt:127:13
 sibling-ok-requires : tie.Need-sibling-ok-requires Inv-loop μ-loop
 sibling-ok-requires c κs = search needs
 
--- src/lib.rt:128:13
 returns : tie.Need-returns Inv-loop μ-loop
 unfolding sibsRight
 returns c = sees-stop _ _ _ _ _ (c .before .before .before .loop .f) _ (omega (arith, c .before .before .before .loop .inv .0 .1)) (c .before .sibling-ok .ensures) (not-true _ (c .if1 .taken))
 
--- src/lib.rt:130:9
 add-f : tie.Need-add-f Inv-loop μ-loop
 add-f c = search needs
 
--- src/lib.rt:126:5
 loop-less : tie.Need-loop-less Inv-loop μ-loop
 loop-less c = search needs
 
--- src/lib.rt:126:5
 loop-again : tie.Need-loop-again Inv-loop μ-loop
 loop-again c = ((omega arith, c .before .before .before .loop .inv .0 .1), sees-more _ _ _ _ _ (c .before .before .before .loop .f) _ (omega (arith, c .before .before .before .loop .inv .0 .1)) (c .before .sibling-ok .ensures) (c .before .before .before .loop .inv .1) (not-false _ (c .if1 .left)))
 
--- src/lib.rt:121:1
 returns-2 : tie.Need-returns-2 Inv-loop μ-loop
 unfolding sibsRight
 returns-2 c = sees-end _ _ _ _ _ (c .before .loop .f) (c .before .loop .inv .1) (omega (arith, c .before .loop .inv .0 .1)) (omega (arith, c .before .loop .inv .0 .1))

@@ -1,6 +1,7 @@
+use Rattle.lists.proofs.Bools.{and-no, and-yes}
 use Rattle.facet.specs.Facet.{codeIn}
 use borrow.Author.Tests.{eq-eqb, ne-eqb}
-use Rattle.laid.proofs.Steps.{and-no, and-yes, marks-words}
+use Rattle.laid.proofs.Steps.{marks-words}
 use Rattle.whole.specs.Tests.{twinIn}
 use mathlib.Core.Bool.{Bool, true, false, not}
 use mathlib.Core.Path.{_≡_, refl, sym, ap, _∙_}
@@ -13,37 +14,29 @@ use Rattle.laid.proofs.marks_at.Reads as marks-at-reads
 use Rattle.lists.proofs.same_set.Reads as same-set-reads
 use Rattle.store.proofs.cell_word.Reads as cell-word-reads
 
--- src/lib.rt:38:9
 returns : tie.Need-returns
 unfolding twinIn
 returns c = and-no _ _ (ap not (eq-eqb _ _ (c .if1 .taken)))
 
--- src/lib.rt:40:8
 cell-word-requires : tie.Need-cell-word-requires
 cell-word-requires c κs = search needs
 
--- src/lib.rt:40:36
 cell-word-requires-2 : tie.Need-cell-word-requires-2
 cell-word-requires-2 c κs = search needs
 
--- src/lib.rt:41:9
 returns-2 : tie.Need-returns-2
 unfolding twinIn codeIn
 returns-2 c = and-yes _ _ _ (ap not (ne-eqb _ _ (c .before .before .before .if1 .left))) (rw (← c .before .before .cell-word .ensures, ← c .before .cell-word2 .ensures) (and-no _ _ (ne-eqb _ _ (c .if2 .taken))))
 
--- src/lib.rt:43:14
 marks-at-requires : tie.Need-marks-at-requires
 marks-at-requires c κs = search needs
 
--- src/lib.rt:43:36
 marks-at-requires-2 : tie.Need-marks-at-requires-2
 marks-at-requires-2 c κs = search needs
 
--- src/lib.rt:43:5
 same-set-requires : tie.Need-same-set-requires
 same-set-requires c κs = search needs
 
--- src/lib.rt:34:1
 returns-3 : tie.Need-returns-3
 unfolding twinIn codeIn
 returns-3 c = and-yes _ _ _ (ap not (ne-eqb _ _ (c .before .before .before .before .before .before .if1 .left))) (rw (← c .before .before .before .before .before .cell-word .ensures, ← c .before .before .before .before .cell-word2 .ensures, ← marks-words (c .before .before .marks-at .ensures), ← marks-words (c .before .marks-at2 .ensures)) (and-yes _ _ _ (eq-eqb _ _ (c .before .before .before .if2 .left)) (c .same-set .ensures)))

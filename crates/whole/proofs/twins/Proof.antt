@@ -20,39 +20,30 @@ Inv-loop w caps c cells n i₀ i = (i ≤ n) × (any (twinIn w caps c) (listOf i
 abbrev μ-loop : tie.MeasureT-loop
 μ-loop w caps c cells n i₀ i = n - i
 
--- src/lib.rt:51:5
 loop-holds : tie.Need-loop-holds Inv-loop μ-loop
 loop-holds c = (omega arith, none-start _ _)
 
--- src/lib.rt:52:41
 cast-word : tie.Need-cast-word Inv-loop μ-loop
 cast-word c = search needs
 
--- src/lib.rt:52:29
 word-requires : tie.Need-word-requires Inv-loop μ-loop
 word-requires c κs = search needs
 
--- src/lib.rt:52:12
 twin-requires : tie.Need-twin-requires Inv-loop μ-loop
 twin-requires c κs = search needs
 
--- src/lib.rt:53:13
 returns : tie.Need-returns Inv-loop μ-loop
 returns c = sym (one-there _ _ _ (c .before .before .before .before .loop .i) (omega arith) (ap (twinIn _ _ _) (sym (c .before .before .word .ensures)) ∙ (sym (c .before .twin .ensures) ∙ c .if1 .taken)))
 
--- src/lib.rt:55:9
 add-i : tie.Need-add-i Inv-loop μ-loop
 add-i c = search needs
 
--- src/lib.rt:51:5
 loop-less : tie.Need-loop-less Inv-loop μ-loop
 loop-less c = search needs
 
--- src/lib.rt:51:5
 loop-again : tie.Need-loop-again Inv-loop μ-loop
 loop-again c = (omega arith, none-more _ _ (c .before .before .before .before .loop .i) (c .before .before .before .before .loop .inv .1) (ap (twinIn _ _ _) (sym (c .before .before .word .ensures)) ∙ (sym (c .before .twin .ensures) ∙ c .if1 .left)))
 
--- src/lib.rt:47:1
 returns-2 : tie.Need-returns-2 Inv-loop μ-loop
 returns-2 c = none-all _ _ (c .before .loop .i) _ (c .before .loop .inv .1) (c .before .loop .inv .0) (omega arith)
 

@@ -15,63 +15,48 @@ use Rattle.whole.proofs.all_lone.Reads as all-lone-reads
 use Rattle.whole.proofs.all_siblings.Reads as all-siblings-reads
 use Rattle.whole.proofs.counts_ok.Reads as counts-ok-reads
 
--- src/lib.rt:210:30
 open-requires : tie.Need-open-requires
 open-requires c κs = search needs
 
--- src/lib.rt:210:22
 enum-known-caps : tie.Need-enum-known-caps
 enum-known-caps c = search needs
 
--- src/lib.rt:211:9
 enum-told : tie.Need-enum-told
 enum-told c = search needs
 
--- src/lib.rt:211:9
 returns : tie.Need-returns
 returns c = no-mesh _ (sym (c .enum-told .given .1) ∙ c .before .before .«open» .ensures)
 
--- src/lib.rt:213:9
 laid-requires : tie.Need-laid-requires
 laid-requires c κs = search needs
 
--- src/lib.rt:214:9
 returns-2 : tie.Need-returns-2
 returns-2 c = no-laid _ _ (sym (c .before .before .before .caps .given .1) ∙ c .before .before .before .before .before .«open» .ensures) (sym (c .before .laid .ensures) ∙ not-true _ (c .if1 .taken))
 
--- src/lib.rt:216:9
 all-lone-requires : tie.Need-all-lone-requires
 all-lone-requires c κs = search needs
 
--- src/lib.rt:217:9
 returns-3 : tie.Need-returns-3
 returns-3 c = no-lone _ _ (sym (c .before .before .before .before .before .caps .given .1) ∙ c .before .before .before .before .before .before .before .«open» .ensures) _ (c .before .all-lone .ensures) (not-true _ (c .if2 .taken))
 
--- src/lib.rt:219:9
 counts-ok-requires : tie.Need-counts-ok-requires
 counts-ok-requires c κs = search needs
 
--- src/lib.rt:220:9
 returns-4 : tie.Need-returns-4
 returns-4 c = no-counts _ _ (sym (c .before .before .before .before .before .before .before .caps .given .1) ∙ c .before .before .before .before .before .before .before .before .before .«open» .ensures) (sym (c .before .counts-ok .ensures) ∙ not-true _ (c .if3 .taken))
 
--- src/lib.rt:222:16
 facet-table-requires : tie.Need-facet-table-requires
 facet-table-requires c κs = search needs
 
--- src/lib.rt:223:9
 all-siblings-requires : tie.Need-all-siblings-requires
 all-siblings-requires c κs = search needs
 
--- src/lib.rt:224:9
 returns-5 : tie.Need-returns-5
 returns-5 c = no-siblings _ _ (sym (c .before .before .before .before .before .before .before .before .before .before .before .caps .given .1) ∙ c .before .before .before .before .before .before .before .before .before .before .before .before .before .«open» .ensures) _ (c .before .before .before .facet-table .ensures) _ (c .before .all-siblings .ensures) (not-true _ (c .if4 .taken))
 
--- src/lib.rt:226:5
 all-anchors-requires : tie.Need-all-anchors-requires
 all-anchors-requires c κs = search needs
 
--- src/lib.rt:207:1
 returns-6 : tie.Need-returns-6
 returns-6 c = passed _ _ (sym (c .before .before .before .before .before .before .before .before .before .before .before .before .before .caps .given .1) ∙ c .before .before .before .before .before .before .before .before .before .before .before .before .before .before .before .«open» .ensures) _ (c .before .before .before .before .before .facet-table .ensures) (sym (c .before .before .before .before .before .before .before .before .before .before .before .laid .ensures) ∙ not-false _ (c .before .before .before .before .before .before .before .before .before .before .if1 .left)) _ _ _ (c .before .before .before .before .before .before .before .before .before .all-lone .ensures) (not-false _ (c .before .before .before .before .before .before .before .before .if2 .left)) (sym (c .before .before .before .before .before .before .before .counts-ok .ensures) ∙ not-false _ (c .before .before .before .before .before .before .if3 .left)) (c .before .before .before .all-siblings .ensures) (not-false _ (c .before .before .if4 .left)) (c .all-anchors .ensures)
 
