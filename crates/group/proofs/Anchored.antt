@@ -22,7 +22,7 @@ use Rattle.lists.proofs.Alike.{map-at}
 use Rattle.lists.proofs.Order.{select-ascends, first-least, asc-same}
 use Rattle.numbers.specs.Half.{halfOf}
 use Rattle.store.specs.declared.Caps.{Caps}
-use Rattle.store.specs.Layout.{cellAt, Cell, address}
+use Rattle.store.specs.Layout.{cellAt}
 use Rattle.map.specs.Cells.{Map, facetsAt}
 use Rattle.map.specs.Siblings.{isHalf, Half, marksOf, sibling, border}
 use Rattle.map.specs.Stars.{star, linked, group, halvesAt, anchor, anchors}
@@ -34,12 +34,11 @@ use Rattle.picture.specs.Picture.{Pic}
 use Rattle.facet.specs.Facet.{facetIn}
 use Rattle.sibling.proofs.Mapped.{map-ascends}
 use Rattle.sibling.proofs.OnPicture.{facet-read, facets-count}
-use Rattle.sibling.proofs.OneWord.{sibling-slot}
 use Rattle.star.specs.Listed.{Gives, Reads, AtMark}
 use Rattle.group.specs.Group.{Around}
 use Rattle.group.specs.Labels.{linkIn, Labelled}
 use Rattle.group.specs.Places.{borderIn, wantedIn, chosenIn, seekIn, placeIn, anchorsIn}
-use Rattle.group.proofs.Facets.{shares-read}
+use Rattle.group.proofs.Round.{sibling-read, linked-read}
 use Rattle.group.proofs.Listing.{list-size}
 use Rattle.group.proofs.Grouped.{Starred, starred, Grouped, grouped, place-one}
 
@@ -60,12 +59,6 @@ star-below caps s d v c e = star-has (mapWith caps s) d v c e .0
 -- the half-facet of a place
 abbrev halfAt : List ℕ → ℕ → ℕ
 halfAt cells x = 8 * getD cells (x / 8) 0 + x % 8
-
--- the word of a sibling
-sibling-read : (w : List ℕ) (caps : Caps) (s : State) → Pic w caps s → (c f : ℕ) → c < caps .cells → f < 4
-    → getD w (cellAt (caps .marks) c + (5 + f)) 0 ≡ s .sib (8 * c + f)
-unfolding address
-sibling-read w caps s p c f h l = p .words (Cell c (5 + f)) (h, omega arith) ∙ sibling-slot caps s c f l
 
 module _ (w : List ℕ) (caps : Caps) (rows : List (List (List ℕ))) (d v : ℕ) (s : State) (p : Pic w caps s) (a : Around caps rows v s)
     (cells : List ℕ) (n : ℕ) (st : Starred (mapWith caps s) d v cells n) where
@@ -298,14 +291,14 @@ module _ (w : List ℕ) (caps : Caps) (rows : List (List (List ℕ))) (d v : ℕ
         asc-same (map half (select own n)) (anchors m d v) list-ascends (anchors-ascend m d v)
         (λ k. same-test _ _ (listed-is k) (is-listed k))
 
-  links-are : (i j : ℕ) → i < n → j < n → linkIn w caps rows cells i j ≡ linked m v (getD cells i 0) (getD cells j 0)
+  links-are : (i j : ℕ) → i < n → j < n → (i ≡ j → ⊥) → linkIn w caps cells i j ≡ linked m v (getD cells i 0) (getD cells j 0)
   unfolding linkIn linked
-  links-are i j hi hj =
-      rw (a .types) (shares-read w caps s p (getD cells i 0) (getD cells j 0) (cell-below i hi) (cell-below j hj))
+  links-are i j hi hj apart =
+      linked-read w caps s p (a .settled) (getD cells i 0) (getD cells j 0) (cell-below i hi) (λ e. apart (place-one m d v cells n st i j hi hj e))
 
 pub anchors-gives : (w : List ℕ) (caps : Caps) (rows : List (List (List ℕ))) (d v : ℕ) (zeros cells blank lab o o′ : List ℕ) (n r : ℕ)
     → Gives w caps 128 (AtMark caps v) (λ m. star m d v) zeros n cells → length zeros ≡ 128
-    → Labelled (linkIn w caps rows cells) n blank lab → length blank ≡ 128
+    → Labelled (linkIn w caps cells) n blank lab → length blank ≡ 128
     → Copied (anchorsIn (placeIn w caps rows v cells lab (8 * n)) cells n) o r o′
     → Gives w caps 128 (Around caps rows v) (λ m. anchors m d v) o r o′
 anchors-gives w caps rows d v zeros cells blank lab o o′ n r stars room labs space list = record {
@@ -313,7 +306,7 @@ anchors-gives w caps rows d v zeros cells blank lab o o′ n r stars room labs s
   size = list .filled .size;
   gives = λ s p a.
       let st = starred (mapWith caps s) d v zeros cells n (stars .gives s p (record { ready = a .settled .ready; mark = a .mark })) (omega (arith, stars .few)) in
-      let gr = grouped (mapWith caps s) d v cells n st (linkIn w caps rows cells) blank lab (omega (arith, stars .few)) labs (links-are w caps rows d v s p a cells n st) in
+      let gr = grouped (mapWith caps s) d v cells n st (linkIn w caps cells) blank lab (omega (arith, stars .few)) labs (links-are w caps rows d v s p a cells n st) in
       rw (anchors-are w caps rows d v s p a cells n st lab gr) at list;
 }
 

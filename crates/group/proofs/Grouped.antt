@@ -3,7 +3,7 @@ use mathlib.Core.Path.{_≡_, refl, sym, ap, _∙_}
 use mathlib.Core.Bool.{Bool, true}
 use mathlib.Core.List.{List}
 use Prim.Native.Nat.{ℕ, _<_, _≤_}
-use native.Mathlib.Decide.{decLt}
+use native.Mathlib.Decide.{decLt, ℕ-discrete}
 use native.Mathlib.Omega.{arith}
 use lib.ListN.{length, getD, drop, List·getD-append}
 use Rattle.lists.specs.Lists.{has}
@@ -53,9 +53,18 @@ module _ (m : Map) (d v : ℕ) (cells : List ℕ) (n : ℕ) (st : Starred m d v 
       go (no f) (no g) = omega arith
 
   module _ (link : ℕ → ℕ → Bool) (l lab : List ℕ) (room : n ≤ length l) (labs : Labelled link n l lab)
-      (links : (i j : ℕ) → i < n → j < n → link i j ≡ linked m v (getD cells i 0) (getD cells j 0)) where
+      (links : (i j : ℕ) → i < n → j < n → (i ≡ j → ⊥) → link i j ≡ linked m v (getD cells i 0) (getD cells j 0)) where
     one-group : ℕ → ℕ → Bool
     one-group p q = has (getD cells q 0) (group m d v (getD cells p 0))
+
+    -- the group of a place has the places that are linked to it, and its own
+    linked-group : (p q : ℕ) → p < n → q < n → link p q ≡ true → one-group p q ≡ true
+    unfolding one-group group
+    linked-group p q hp hq e = go (ℕ-discrete p q)
+      where
+        go : Dec (p ≡ q) → has (getD cells q 0) (group m d v (getD cells p 0)) ≡ true
+        go (yes z) = rw (← z) (group-of-star m d v (getD cells p 0) (st .inside p hp))
+        go (no f) = joined-group (linked m v) (star m d v) _ _ (onward (st .inside p hp) (sym (links p q hp hq f) ∙ e) (here (st .inside q hq)))
 
     relates : Relates link n one-group
     unfolding one-group group
@@ -64,8 +73,7 @@ module _ (m : Map) (d v : ℕ) (cells : List ℕ) (n : ℕ) (st : Starred m d v 
       onward = λ p q r e f.
           joined-group (linked m v) (star m d v) _ _
           (joined-then (linked m v) (star m d v) (group-joined (linked m v) (star m d v) _ _ e) (group-joined (linked m v) (star m d v) _ _ f));
-      links = λ p q hp hq e.
-          joined-group (linked m v) (star m d v) _ _ (onward (st .inside p hp) (sym (links p q hp hq) ∙ e) (here (st .inside q hq)));
+      links = linked-group;
     }
 
     -- linked cells have one label
@@ -73,8 +81,8 @@ module _ (m : Map) (d v : ℕ) (cells : List ℕ) (n : ℕ) (st : Starred m d v 
     step i k hi hk e = go (decLt k i) (decLt i k)
       where
         go : Dec (k < i) → Dec (i < k) → getD lab i 0 ≡ getD lab k 0
-        go (yes a) b = labs .linked room i k a hi (links i k hi hk ∙ e)
-        go (no f) (yes b) = sym (labs .linked room k i b hk (links k i hk hi ∙ linked-back m v _ _ e))
+        go (yes a) b = labs .linked room i k a hi (links i k hi hk (λ z. omega arith) ∙ e)
+        go (no f) (yes b) = sym (labs .linked room k i b hk (links k i hk hi (λ z. omega arith) ∙ linked-back m v _ _ e))
         go (no f) (no g) = let z : i ≡ k = omega arith in rw z
 
     along : {a b : ℕ} → Joined (linked m v) (star m d v) a b → (i j : ℕ) → i < n → j < n → getD cells i 0 ≡ a → getD cells j 0 ≡ b → getD lab i 0 ≡ getD lab j 0

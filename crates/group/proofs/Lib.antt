@@ -1,5 +1,6 @@
 -- The laws that the layers above cite.
-pub mod Facets
+pub mod Meeting
+pub mod Round
 pub mod Merging
 pub mod Seeking
 pub mod Recalling

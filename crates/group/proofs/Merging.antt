@@ -11,7 +11,7 @@ use borrow.Author.Tests.{eq-eqb, ne-eqb}
 use lib.ListN.{length, getD, set, length-set}
 use lib.Seq.{getD-set-same, getD-set-other}
 use Rattle.store.specs.declared.Caps.{Caps}
-use Rattle.group.specs.Labels.{sharesIn, linkIn, Numbered, renamed, Relabelled, Relates, Within, Pairs, Merged, Labelled}
+use Rattle.group.specs.Labels.{linkedIn, linkIn, Numbered, renamed, Relabelled, Relates, Within, Pairs, Merged, Labelled}
 
 pub number-start : (l : List ℕ) → Numbered 0 l l
 number-start l = record { size = refl; own = λ _ p h. absurd (not-suc-le-zero h) }
@@ -201,7 +201,7 @@ module _ (link : ℕ → ℕ → Bool) (n : ℕ) where
       later room = omega (arith, own .size)
 
 -- whether two places are linked, as the code asks it
-pub link-is : (w : List ℕ) (caps : Caps) (rows : List (List (List ℕ))) (cells : List ℕ) (i j a b : ℕ) (r : Bool) → a ≡ getD cells i 0 → b ≡ getD cells j 0
-    → r ≡ sharesIn w caps rows a b → r ≡ linkIn w caps rows cells i j
+pub link-is : (w : List ℕ) (caps : Caps) (cells : List ℕ) (i j a b : ℕ) (r : Bool) → a ≡ getD cells i 0 → b ≡ getD cells j 0
+    → r ≡ linkedIn w caps a b → r ≡ linkIn w caps cells i j
 unfolding linkIn
-link-is w caps rows cells i j a b r e f q = rw (← e, ← f) q
+link-is w caps cells i j a b r e f q = rw (← e, ← f) q

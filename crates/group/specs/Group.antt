@@ -5,14 +5,7 @@ use Prim.Native.Nat.{ℕ, _<_}
 use Rattle.shapes.specs.Table.{table}
 use Rattle.store.specs.declared.Caps.{Caps}
 use Rattle.picture.specs.State.{State}
-use Rattle.picture.specs.Ready.{Ready, Settled}
-
--- two cells of a ready state
-pub record Pair (caps : Caps) (rows : List (List (List ℕ))) (a b : ℕ) (s : State) : Type 0 where
-  pub ready : Ready caps s
-  pub types : rows ≡ table
-  pub first : a < caps .cells
-  pub second : b < caps .cells
+use Rattle.picture.specs.Ready.{Settled}
 
 -- a mark of a settled state
 pub record Around (caps : Caps) (rows : List (List (List ℕ))) (v : ℕ) (s : State) : Type 0 where

@@ -1,26 +1,41 @@
 -- Groups by labels: each place of a list of cells has a label, and two places have one label where links join them.
 use mathlib.Core.Path.{_≡_}
-use mathlib.Core.Bool.{Bool, true, false, cond, _||_}
+use mathlib.Core.Bool.{Bool, true, false, cond, not, _&&_, _||_}
 use mathlib.Core.List.{List}
-use Prim.Native.Nat.{ℕ, zero, suc, _<_, _≤_}
-use lib.Dec.{eqb, ltb}
+use Prim.Native.Nat.{ℕ, zero, suc, _+_, _/_, _%_, _<_, _≤_}
+use lib.Dec.{eqb}
 use lib.ListN.{getD, length}
+use Rattle.numbers.specs.Half.{halfOf}
 use Rattle.shapes.specs.Shapes.{facetCount}
 use Rattle.store.specs.declared.Caps.{Caps}
-use Rattle.facet.specs.Facet.{codeIn, facetIn, matchIn}
+use Rattle.store.specs.Layout.{cellAt}
+use Rattle.facet.specs.Facet.{codeIn}
 
 -- one of the numbers below n passes
 unfoldable pub anyBelow : ℕ → (ℕ → Bool) → Bool
 anyBelow zero p = false
 anyBelow (suc n) p = p n || anyBelow n p
 
--- two cells share a facet, by their records
-unfoldable pub sharesIn : List ℕ → Caps → List (List (List ℕ)) → ℕ → ℕ → Bool
-sharesIn w caps rows a b = anyBelow (facetCount (codeIn w caps a)) (λ f. ltb (matchIn w caps rows b (facetIn w caps rows a f)) 8)
+-- the sibling word of a half-facet
+unfoldable pub sibAt : List ℕ → Caps → ℕ → ℕ
+sibAt w caps h = getD w (cellAt (caps .marks) (h / 8) + (5 + h % 8)) 0
+
+-- from half-facet h on, in at most k steps by the words, cell b is met before half-facet start
+unfoldable pub meetsIn : List ℕ → Caps → ℕ → ℕ → ℕ → ℕ → Bool
+meetsIn w caps start b zero h = false
+meetsIn w caps start b (suc k) h = not (eqb h start) && (eqb (h / 8) b || meetsIn w caps start b k (sibAt w caps h))
+
+-- so on the way from half-facet start round to it
+unfoldable pub metIn : List ℕ → Caps → ℕ → ℕ → Bool
+metIn w caps start b = meetsIn w caps start b 128 (sibAt w caps start)
+
+-- cell b is met from a facet of cell a
+unfoldable pub linkedIn : List ℕ → Caps → ℕ → ℕ → Bool
+linkedIn w caps a b = anyBelow (facetCount (codeIn w caps a)) (λ f. metIn w caps (halfOf (a % 65536) (f % 8)) b)
 
 -- so two places of a list of cells are linked
-unfoldable pub linkIn : List ℕ → Caps → List (List (List ℕ)) → List ℕ → ℕ → ℕ → Bool
-linkIn w caps rows cells i j = sharesIn w caps rows (getD cells i 0) (getD cells j 0)
+unfoldable pub linkIn : List ℕ → Caps → List ℕ → ℕ → ℕ → Bool
+linkIn w caps cells i j = linkedIn w caps (getD cells i 0) (getD cells j 0)
 
 -- each of the first n places has its own number as label
 pub record Numbered (n : ℕ) (l l′ : List ℕ) : Type 0 where

@@ -1,64 +1,70 @@
 // The groups of a star, and their anchors.
 //
-// What is here: `shares` tells whether two cells share a facet, `anchors_of` lists the anchors of a mark in a dimension,
-// `first_anchor_of` gives the first of them as number + 1. All are total on any memory. What is proved: on the picture of a settled
-// state each answer is the definition's (specs/Group.antt says what of a state is asked). How: each cell of the star has a label;
-// two cells that share a facet get one label; then the anchor of each label's cells is sought, once. What a caller should know:
-// each pair of cells is looked at once at most; 128 words hold any answer; the table is handed down.
+// What is here: `anchors_of` lists the anchors of a mark in a dimension, `first_anchor_of` gives the first of them as number + 1.
+// Both are total on any memory. What is proved: on the picture of a settled state each answer is the definition's (specs/Group.antt
+// says what of a state is asked). How: each cell of the star has a label; two cells that share a facet get one label, and the stored
+// siblings of the one cell's facets tell it, for they lead to each cell with a facet of the same marks; then the anchor of each
+// label's cells is sought, once. What a caller should know: each pair of cells is looked at once at most; 128 words hold any answer;
+// the table is handed down.
 ghost use mathlib.Core.Path.{_≡_};
 ghost use Prim.Native.Nat.{_+_, _<_};
-ghost use lib.Dec.{ltb};
 ghost use Rattle.lists.specs.Filled.{Copied};
-ghost use Rattle.map.specs.Cells.{shares};
 ghost use Rattle.map.specs.Stars.{anchors};
 ghost use Rattle.picture.specs.State.{next};
-ghost use Rattle.facet.specs.Facet.{facetIn, matchIn};
-ghost use Rattle.star.specs.Listed.{Gives, Tells, Reads};
-ghost use Rattle.group.specs.Group.{Pair, Around};
-ghost use Rattle.group.specs.Labels.{sharesIn, linkIn, Numbered, Relabelled, Pairs, Merged, Labelled};
+ghost use Rattle.star.specs.Listed.{Gives, Reads};
+ghost use Rattle.group.specs.Group.{Around};
+ghost use Rattle.group.specs.Labels.{sibAt, metIn, linkedIn, linkIn, Numbered, Relabelled, Pairs, Merged, Labelled};
 ghost use Rattle.group.specs.Places.{borderIn, wantedIn, chosenIn, seekIn, placeIn, Recalled, anchorsIn};
-use facet::copy_facet;
 use facet::facet_has;
-use facet::matching;
 use numbers::Cell;
 use numbers::half_of;
 use shapes::facet_count;
 use star::star_of;
 use store::Caps;
 use store::cell_word;
-use words::part;
 use words::put;
 use words::word;
 
-// Whether cell b has a facet with the marks of a facet of cell a.
-fn facet_shared(w: &[u32], caps: Caps, rows: &[[[u8; 5]; 6]; 5], a: u32, f: u32, b: u32) -> bool
-    ensures { λ r. ⌜ r ≡ ltb (matchIn (now (w .entry)) caps (now (rows .entry)) b (facetIn (now (w .entry)) caps (now (rows .entry)) a f)) 8 ⌝ }
+// The sibling word of a half-facet.
+fn onward(w: &[u32], caps: Caps, h: u32) -> u32
+    ensures { λ r. ⌜ r ≡ sibAt (now (w .entry)) caps h ⌝ }
 {
-    let mut marks = [0u32; 4];
-    let n = copy_facet(w, caps, rows, a, f, &mut marks);
-    matching(w, caps, rows, b, part(&marks, 0, n as usize)) < 8
+    cell_word(w, caps, h / 8, 5 + h % 8)
 }
 
-// Whether two cells share a facet, by their records.
-fn sharing(w: &[u32], caps: Caps, rows: &[[[u8; 5]; 6]; 5], a: u32, b: u32) -> bool
-    ensures { λ r. ⌜ r ≡ sharesIn (now (w .entry)) caps (now (rows .entry)) a b ⌝ }
+// Whether the words lead from a half-facet to cell b before they lead back; no set has more than 128 half-facets.
+fn meets(w: &[u32], caps: Caps, start: u32, b: u32) -> bool
+    ensures { λ r. ⌜ r ≡ metIn (now (w .entry)) caps start b ⌝ }
+{
+    let mut h = onward(w, caps, start);
+    let mut left: u32 = 128;
+    while 0 < left {
+        if h == start {
+            return false;
+        }
+        if h / 8 == b {
+            return true;
+        }
+        h = onward(w, caps, h);
+        left -= 1;
+    }
+    false
+}
+
+// Whether two cells share a facet, by the sibling words.
+fn linked(w: &[u32], caps: Caps, a: u32, b: u32) -> bool
+    ensures { λ r. ⌜ r ≡ linkedIn (now (w .entry)) caps a b ⌝ }
 {
     let n = facet_count(cell_word(w, caps, a, 0));
     let mut f: u32 = 0;
     while f < n {
-        if facet_shared(w, caps, rows, a, f, b) {
+        let half = half_of(Cell(a), f);
+        if meets(w, caps, half.0, b) {
             return true;
         }
         f += 1;
     }
     false
-}
-
-// Whether two cells share a facet.
-pub fn shares(w: &[u32], caps: Caps, rows: &[[[u8; 5]; 6]; 5], a: u32, b: u32) -> bool
-    ensures { λ r. ⌜ Tells (now (w .entry)) caps (Pair caps (now (rows .entry)) a b) (λ m. shares m a b) r ⌝ }
-{
-    sharing(w, caps, rows, a, b)
 }
 
 // Each of the first n places gets a label of its own.
@@ -86,55 +92,38 @@ fn relabel(lab: &mut [u32], n: u32, old: u32, new: u32)
 }
 
 // Two places whose cells share a facet get one label.
-fn merge_pair(
-    w: &[u32],
-    caps: Caps,
-    rows: &[[[u8; 5]; 6]; 5],
-    cells: &[u32],
-    n: u32,
-    a: usize,
-    b: usize,
-    lab: &mut [u32],
-)
-    ensures { λ _. ⌜ (b < a → a < n → Merged (linkIn (now (w .entry)) caps (now (rows .entry)) (now (cells .entry))) n (Pairs a b (b + 1)) (now (lab .entry)) (now (lab .exit))) ⌝ }
+fn merge_pair(w: &[u32], caps: Caps, cells: &[u32], n: u32, a: usize, b: usize, lab: &mut [u32])
+    ensures { λ _. ⌜ (b < a → a < n → Merged (linkIn (now (w .entry)) caps (now (cells .entry))) n (Pairs a b (b + 1)) (now (lab .entry)) (now (lab .exit))) ⌝ }
 {
     let one = word(lab, a);
     let other = word(lab, b);
     if one == other {
         return;
     }
-    if sharing(w, caps, rows, word(cells, a), word(cells, b)) {
+    if linked(w, caps, word(cells, a), word(cells, b)) {
         relabel(lab, n, other, one);
     }
 }
 
 // So for a place and each place before it, the nearest first: neighbours often have near numbers, and then one label soon.
-fn merge_row(
-    w: &[u32],
-    caps: Caps,
-    rows: &[[[u8; 5]; 6]; 5],
-    cells: &[u32],
-    n: u32,
-    a: u32,
-    lab: &mut [u32],
-)
-    ensures { λ _. ⌜ (a < n → Merged (linkIn (now (w .entry)) caps (now (rows .entry)) (now (cells .entry))) n (Pairs a 0 a) (now (lab .entry)) (now (lab .exit))) ⌝ }
+fn merge_row(w: &[u32], caps: Caps, cells: &[u32], n: u32, a: u32, lab: &mut [u32])
+    ensures { λ _. ⌜ (a < n → Merged (linkIn (now (w .entry)) caps (now (cells .entry))) n (Pairs a 0 a) (now (lab .entry)) (now (lab .exit))) ⌝ }
 {
     let mut b: u32 = a;
     while 0 < b {
         b -= 1;
-        merge_pair(w, caps, rows, cells, n, a as usize, b as usize, lab);
+        merge_pair(w, caps, cells, n, a as usize, b as usize, lab);
     }
 }
 
 // The labels of the first n cells: one for each group.
-fn labels(w: &[u32], caps: Caps, rows: &[[[u8; 5]; 6]; 5], cells: &[u32], n: u32, lab: &mut [u32])
-    ensures { λ _. ⌜ Labelled (linkIn (now (w .entry)) caps (now (rows .entry)) (now (cells .entry))) n (now (lab .entry)) (now (lab .exit)) ⌝ }
+fn labels(w: &[u32], caps: Caps, cells: &[u32], n: u32, lab: &mut [u32])
+    ensures { λ _. ⌜ Labelled (linkIn (now (w .entry)) caps (now (cells .entry))) n (now (lab .entry)) (now (lab .exit)) ⌝ }
 {
     number(lab, n);
     let mut a: u32 = 0;
     while a < n {
-        merge_row(w, caps, rows, cells, n, a, lab);
+        merge_row(w, caps, cells, n, a, lab);
         a += 1;
     }
 }
@@ -298,7 +287,7 @@ pub fn anchors_of(
     let mut cells = [0u32; 128];
     let n = star_of(w, caps, d, v, &mut cells);
     let mut lab = [0u32; 128];
-    labels(w, caps, rows, &cells, n, &mut lab);
+    labels(w, caps, &cells, n, &mut lab);
     list(w, caps, rows, v, &cells, &lab, n, 8 * n, out)
 }
 

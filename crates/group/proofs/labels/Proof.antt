@@ -8,10 +8,10 @@ use Rattle.group.proofs.labels.Statement.{statement}
 use Rattle.group.proofs.labels.Tie as tie
 
 abbrev Inv-loop : tie.InvT-loop
-Inv-loop w caps rows cells n lab₀ a₀ lab a = (a ≤ n) × Merged (linkIn w caps rows cells) n (Rows a) lab₀ lab
+Inv-loop w caps cells n lab₀ a₀ lab a = (a ≤ n) × Merged (linkIn w caps cells) n (Rows a) lab₀ lab
 
 abbrev μ-loop : tie.MeasureT-loop
-μ-loop w caps rows cells n lab₀ a₀ lab a = n - a
+μ-loop w caps cells n lab₀ a₀ lab a = n - a
 
 number-requires : tie.Need-number-requires Inv-loop μ-loop
 number-requires c κs = search needs

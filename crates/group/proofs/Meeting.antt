@@ -1,0 +1,102 @@
+-- Whether a cell is met along the sibling words, step by step and facet by facet.
+use mathlib.Core.Path.{_≡_, refl, sym, ap, _∙_}
+use mathlib.Core.Bool.{Bool, true, false}
+use mathlib.Core.List.{List}
+use mathlib.Core.Logic.{⊎-elim}
+use Prim.Native.Nat.{ℕ, zero, suc, _+_, _-_, _/_, _%_, _<_}
+use native.Mathlib.Nat.{not-suc-le-zero, eq-or-lt-of-le}
+use native.Mathlib.Omega.{arith}
+use borrow.Author.Tests.{eq-eqb, ne-eqb}
+use lib.ListN.{getD}
+use Rattle.lists.proofs.Bools.{clash, or-cases, or-left, or-right}
+use Rattle.numbers.specs.Half.{halfOf}
+use Rattle.shapes.specs.Shapes.{facetCount}
+use Rattle.store.specs.declared.Caps.{Caps}
+use Rattle.store.specs.Layout.{cellAt}
+use Rattle.facet.specs.Facet.{codeIn}
+use Rattle.group.specs.Labels.{anyBelow, sibAt, meetsIn, metIn, linkedIn}
+
+pub below-found : (n : ℕ) (p : ℕ → Bool) (k : ℕ) → k < n → p k ≡ true → anyBelow n p ≡ true
+unfolding anyBelow
+below-found zero p k h e = absurd (not-suc-le-zero h)
+below-found (suc n) p k h e =
+    ⊎-elim (λ (z : k ≡ n). or-left _ _ (ap p (sym z) ∙ e)) (λ (l : k < n). or-right (p n) _ (below-found n p k l e))
+    (eq-or-lt-of-le {n = k} {m = n} (omega arith))
+
+below-none : (n : ℕ) (p : ℕ → Bool) → ((k : ℕ) → k < n → p k ≡ false) → anyBelow n p ≡ false
+unfolding anyBelow
+below-none zero p f = refl
+below-none (suc n) p f = rw (f n (omega arith)) (below-none n p (λ k h. f k (omega arith)))
+
+pub below-out : (n : ℕ) (p : ℕ → Bool) → anyBelow n p ≡ true → (k : ℕ) × (k < n) × (p k ≡ true)
+unfolding anyBelow
+below-out zero p e = absurd (clash e refl)
+below-out (suc n) p e =
+    ⊎-elim (λ (h : p n ≡ true). (n, omega arith, h)) (λ (h : anyBelow n p ≡ true). let r = below-out n p h in (r .0, omega (arith, r .1), r .2))
+    (or-cases (p n) (anyBelow n p) e)
+
+pub onward-is : (w : List ℕ) (caps : Caps) (h x : ℕ) → x ≡ getD w (cellAt (caps .marks) (h / 8) + (5 + h % 8)) 0 → x ≡ sibAt w caps h
+unfolding sibAt
+onward-is w caps h x e = e
+
+-- step by step
+module _ (w : List ℕ) (caps : Caps) (start b : ℕ) where
+  pub meets-start : (h : ℕ) → h ≡ sibAt w caps start → meetsIn w caps start b 128 h ≡ metIn w caps start b
+  unfolding metIn
+  meets-start h e = ap (meetsIn w caps start b 128) e
+
+  pub meets-none : (h : ℕ) → meetsIn w caps start b 0 h ≡ false
+  unfolding meetsIn
+  meets-none h = refl
+
+  pub meets-back : (k h : ℕ) → h ≡ start → meetsIn w caps start b (suc k) h ≡ false
+  unfolding meetsIn
+  meets-back k h e = rw (eq-eqb h start e)
+
+  module _ (k h : ℕ) (apart : h ≡ start → ⊥) where
+    pub meets-here : h / 8 ≡ b → meetsIn w caps start b (suc k) h ≡ true
+    unfolding meetsIn
+    meets-here e = rw (ne-eqb h start apart, eq-eqb (h / 8) b e)
+
+    pub meets-more : (h / 8 ≡ b → ⊥) → meetsIn w caps start b (suc k) h ≡ meetsIn w caps start b k (sibAt w caps h)
+    unfolding meetsIn
+    meets-more f = rw (ne-eqb h start apart, ne-eqb (h / 8) b f)
+
+  -- as the code takes them
+  module _ (left h : ℕ) (inv : meetsIn w caps start b left h ≡ metIn w caps start b) where
+    pub met-none : left ≡ 0 → false ≡ metIn w caps start b
+    met-none e = sym (meets-none h) ∙ (ap (λ (k : ℕ). meetsIn w caps start b k h) (sym e) ∙ inv)
+
+    module _ (some : 0 < left) where
+      here : meetsIn w caps start b (suc (left - 1)) h ≡ metIn w caps start b
+      here =
+          let e : suc (left - 1) ≡ left = omega arith in
+          ap (λ (k : ℕ). meetsIn w caps start b k h) e ∙ inv
+
+      pub met-back : h ≡ start → false ≡ metIn w caps start b
+      met-back e = sym (meets-back (left - 1) h e) ∙ here
+
+      pub met-here : (h ≡ start → ⊥) → h / 8 ≡ b → true ≡ metIn w caps start b
+      met-here f e = sym (meets-here (left - 1) h f e) ∙ here
+
+      pub met-more : (h ≡ start → ⊥) → (h / 8 ≡ b → ⊥) → (h′ : ℕ) → h′ ≡ sibAt w caps h → meetsIn w caps start b (left - 1) h′ ≡ metIn w caps start b
+      met-more f g h′ e = ap (meetsIn w caps start b (left - 1)) e ∙ (sym (meets-more (left - 1) h f g) ∙ here)
+
+-- from a facet of a cell
+pub met-from : (w : List ℕ) (caps : Caps) (a b f h : ℕ) (r : Bool) → h ≡ halfOf (a % 65536) (f % 8) → r ≡ metIn w caps h b
+    → metIn w caps (halfOf (a % 65536) (f % 8)) b ≡ r
+met-from w caps a b f h r e q = sym (q ∙ ap (λ (x : ℕ). metIn w caps x b) e)
+
+-- facet by facet
+module _ (w : List ℕ) (caps : Caps) (a b t n : ℕ) (code : t ≡ getD w (cellAt (caps .marks) a + 0) 0) (count : n ≡ facetCount t) where
+  facets : facetCount (codeIn w caps a) ≡ n
+  unfolding codeIn
+  facets = sym (count ∙ ap facetCount code)
+
+  pub linked-found : (f : ℕ) → metIn w caps (halfOf (a % 65536) (f % 8)) b ≡ true → f < n → true ≡ linkedIn w caps a b
+  unfolding linkedIn
+  linked-found f e h = rw facets (sym (below-found n _ f h e))
+
+  pub linked-none : (f : ℕ) → ((k : ℕ) → k < f → metIn w caps (halfOf (a % 65536) (k % 8)) b ≡ false) → f ≡ n → false ≡ linkedIn w caps a b
+  unfolding linkedIn
+  linked-none f before e = rw facets (sym (below-none n _ (rw e at before)))

@@ -1,0 +1,66 @@
+-- `group::linked` meets its contract.
+use borrow.Author.Needs.{needs}
+use mathlib.Core.Path.{_≡_, _∙_}
+use Prim.Native.Nat.{ℕ, _-_, _%_, _≤_, _<_}
+use native.Mathlib.Omega.{arith}
+use native.Mathlib.Nat.{not-suc-le-zero}
+use borrow.Author.Count.{below-more}
+use mathlib.Core.Bool.{false}
+use Rattle.numbers.specs.Half.{halfOf}
+use Rattle.group.specs.Labels.{metIn}
+use Rattle.group.proofs.Meeting.{met-from, linked-found, linked-none}
+use Rattle.group.proofs.linked.Statement.{statement}
+use Rattle.group.proofs.linked.Tie as tie
+
+abbrev Inv-loop : tie.InvT-loop
+Inv-loop w caps a b n f₀ f = (f ≤ n) × ((k : ℕ) → k < f → metIn w caps (halfOf (a % 65536) (k % 8)) b ≡ false)
+
+abbrev μ-loop : tie.MeasureT-loop
+μ-loop w caps a b n f₀ f = n - f
+
+cell-word-requires : tie.Need-cell-word-requires Inv-loop μ-loop
+cell-word-requires c κs = search needs
+
+facet-count-requires : tie.Need-facet-count-requires Inv-loop μ-loop
+facet-count-requires c κs = search needs
+
+loop-holds : tie.Need-loop-holds Inv-loop μ-loop
+loop-holds c = (omega arith, λ k h. absurd (not-suc-le-zero h))
+
+half-of-requires : tie.Need-half-of-requires Inv-loop μ-loop
+half-of-requires c κs = search needs
+
+meets-requires : tie.Need-meets-requires Inv-loop μ-loop
+meets-requires c κs = search needs
+
+returns : tie.Need-returns Inv-loop μ-loop
+returns c = linked-found _ _ _ _ _ _ (c .before .before .before .before .before .before .cell-word .ensures) (c .before .before .before .before .before .facet-count .ensures) (c .before .before .before .before .loop .f) (met-from _ _ _ _ (c .before .before .before .before .loop .f) _ _ (c .before .before .half-of .ensures) (c .before .meets .ensures) ∙ c .if1 .taken) (omega arith)
+
+add-f : tie.Need-add-f Inv-loop μ-loop
+add-f c = search needs
+
+loop-less : tie.Need-loop-less Inv-loop μ-loop
+loop-less c = search needs
+
+loop-again : tie.Need-loop-again Inv-loop μ-loop
+loop-again c = (omega arith, below-more _ _ (c .before .before .before .before .loop .inv .1) (met-from _ _ _ _ (c .before .before .before .before .loop .f) _ _ (c .before .before .half-of .ensures) (c .before .meets .ensures) ∙ c .if1 .left))
+
+returns-2 : tie.Need-returns-2 Inv-loop μ-loop
+returns-2 c = linked-none _ _ _ _ _ _ (c .before .before .before .cell-word .ensures) (c .before .before .facet-count .ensures) (c .before .loop .f) (c .before .loop .inv .1) (omega (arith, c .before .loop .inv .0))
+
+pub linked-spec : {M : Type 1} → statement M
+linked-spec =
+    tie.close
+    (tie.spec
+    Inv-loop
+    μ-loop
+    cell-word-requires
+    facet-count-requires
+    loop-holds
+    half-of-requires
+    meets-requires
+    returns
+    add-f
+    loop-less
+    loop-again
+    returns-2)
