@@ -310,6 +310,24 @@ anchors-gives w caps rows d v zeros cells blank lab o o′ n r stars room labs s
       rw (anchors-are w caps rows d v s p a cells n st lab gr) at list;
 }
 
+-- where the star has no cell there is none
+none-listed : (place : ℕ → ℕ) (cells o : List ℕ) → Copied (anchorsIn place cells 0) o 0 o
+unfolding anchorsIn select
+none-listed place cells o = record { count = refl; filled = record { size = refl; wrote = λ _. refl } }
+
+pub anchors-none : (w : List ℕ) (caps : Caps) (rows : List (List (List ℕ))) (d v : ℕ) (zeros cells o : List ℕ) (n : ℕ)
+    → Gives w caps 128 (AtMark caps v) (λ m. star m d v) zeros n cells → length zeros ≡ 128 → n ≡ 0
+    → Gives w caps 128 (Around caps rows v) (λ m. anchors m d v) o 0 o
+anchors-none w caps rows d v zeros cells o n stars room e =
+    anchors-gives w caps rows d v zeros cells zeros zeros o o n 0 stars room none room (rw e (none-listed _ cells o))
+  where
+    none : Labelled (linkIn w caps cells) n zeros zeros
+    none = record {
+      size = refl;
+      linked = λ _ a b below high link. absurd (omega arith);
+      within = λ _ R rel self p q low. absurd (omega arith);
+    }
+
 -- the first of them
 next-first : (l : List ℕ) → 0 < length l → getD l 0 0 + 1 ≡ next l
 unfolding next

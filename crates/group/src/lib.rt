@@ -286,6 +286,10 @@ pub fn anchors_of(
 {
     let mut cells = [0u32; 128];
     let n = star_of(w, caps, d, v, &mut cells);
+    // no cell of that dimension, no group
+    if n == 0 {
+        return 0;
+    }
     let mut lab = [0u32; 128];
     labels(w, caps, &cells, n, &mut lab);
     list(w, caps, rows, v, &cells, &lab, n, 8 * n, out)

@@ -1,6 +1,5 @@
 -- What the readers of stars leave: on the picture of a ready state, the list of the definitions in the first places of the output.
 use mathlib.Core.Path.{_≡_}
-use mathlib.Core.Bool.{Bool}
 use mathlib.Core.List.{List}
 use Prim.Native.Nat.{ℕ, _<_, _≤_}
 use lib.ListN.{length}
@@ -16,10 +15,6 @@ pub record Gives (w : List ℕ) (caps : Caps) (most : ℕ) (ok : State → Type 
   pub few : r ≤ most
   pub size : length o′ ≡ length o
   pub gives : (s : State) → Pic w caps s → ok s → Copied (list (mapWith caps s)) o r o′
-
--- an answer yes or no, by the map of any state that allows it
-pub record Tells (w : List ℕ) (caps : Caps) (ok : State → Type 0) (test : Map → Bool) (r : Bool) : Type 0 where
-  pub tells : (s : State) → Pic w caps s → ok s → r ≡ test (mapWith caps s)
 
 -- a mark of a ready state
 pub record AtMark (caps : Caps) (v : ℕ) (s : State) : Type 0 where

@@ -1,6 +1,6 @@
 -- `group::anchors_of` meets its contract.
 use mathlib.Core.Path.{refl}
-use Rattle.group.proofs.Anchored.{anchors-gives}
+use Rattle.group.proofs.Anchored.{anchors-gives, anchors-none}
 use borrow.Author.Needs.{needs}
 use Rattle.group.proofs.anchors_of.Statement.{statement}
 use Rattle.group.proofs.anchors_of.Tie as tie
@@ -10,6 +10,9 @@ slice-aggregate-star-of c = search needs
 
 star-of-requires : tie.Need-star-of-requires
 star-of-requires c κs = search needs
+
+returns : tie.Need-returns
+returns c = anchors-none _ _ _ _ _ _ _ _ _ (c .before .before .star-of .ensures) refl (c .if1 .taken)
 
 slice-aggregate-labels : tie.Need-slice-aggregate-labels
 slice-aggregate-labels c = search needs
@@ -35,8 +38,8 @@ list-requires c κs = search needs
 same-length : tie.Need-same-length
 same-length c = search needs
 
-returns : tie.Need-returns
-returns c = anchors-gives _ _ _ _ _ _ _ _ _ _ _ _ _ (c .before .before .before .before .before .before .before .before .before .before .before .star-of .ensures) refl (c .before .before .before .before .before .before .before .labels .ensures) refl (c .before .before .list .ensures)
+returns-2 : tie.Need-returns-2
+returns-2 c = anchors-gives _ _ _ _ _ _ _ _ _ _ _ _ _ (c .before .before .before .before .before .before .before .before .before .before .before .before .star-of .ensures) refl (c .before .before .before .before .before .before .before .labels .ensures) refl (c .before .before .list .ensures)
 
 pub anchors-of-spec : {M : Type 1} → statement M
 anchors-of-spec =
@@ -44,6 +47,7 @@ anchors-of-spec =
     (tie.spec
     slice-aggregate-star-of
     star-of-requires
+    returns
     slice-aggregate-labels
     slice-aggregate-labels-2
     labels-requires
@@ -52,4 +56,4 @@ anchors-of-spec =
     mul-list
     list-requires
     same-length
-    returns)
+    returns-2)
