@@ -20,7 +20,7 @@ use Rattle.lists.proofs.Select.{select-in, select-out}
 use Rattle.lists.proofs.Fill.{listOf-take}
 use Rattle.words.specs.Words.{partOf}
 use Rattle.shapes.specs.Shapes.{Shape, noShape, bar, tri, quad, tetra, shapes, shape}
-use Rattle.store.specs.declared.Caps.{Caps}
+use Rattle.numbers.specs.declared.Caps.{Caps}
 use Rattle.store.specs.Layout.{cellAt, markAt}
 use Rattle.map.specs.Cells.{Map, holds, cellsOf}
 use Rattle.map.specs.Stars.{holders}

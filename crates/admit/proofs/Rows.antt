@@ -12,7 +12,7 @@ use Rattle.lists.proofs.Counts.{none-has}
 use Rattle.lists.proofs.Members.{at-has}
 use Rattle.lists.proofs.Alike.{any-same}
 use Rattle.shapes.specs.Shapes.{shape}
-use Rattle.store.specs.declared.Caps.{Caps}
+use Rattle.numbers.specs.declared.Caps.{Caps}
 use Rattle.store.specs.Layout.{cellAt, markAt}
 use Rattle.map.specs.Cells.{Map, live, cellsOf}
 use Rattle.map.specs.Stars.{holders}

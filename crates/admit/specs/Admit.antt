@@ -8,12 +8,13 @@ use lib.ListN.{getD, length}
 use Rattle.lists.specs.Lists.{any, sameSet}
 use Rattle.words.specs.Words.{partOf}
 use Rattle.shapes.specs.Shapes.{shape}
-use Rattle.store.specs.declared.Caps.{Caps}
+use Rattle.numbers.specs.declared.Caps.{Caps}
 use Rattle.store.specs.Layout.{markAt, cellAt}
 use Rattle.map.specs.Cells.{Map, cellsOf}
 use Rattle.map.specs.Stars.{holders}
 use Rattle.picture.specs.State.{capsOf}
 use Rattle.picture.specs.Picture.{Wf}
+use Rattle.numbers.specs.Sizes.{mostAround}
 
 -- the cell's record is of the type, with the same set of marks
 unfoldable pub sameIn : List ℕ → Caps → ℕ → List ℕ → ℕ → Bool
@@ -22,7 +23,7 @@ sameIn w caps t marks c =
 
 -- the mark's count is full
 unfoldable pub fullIn : List ℕ → ℕ → Bool
-fullIn w v = leb 128 (getD w (markAt v + 1) 0)
+fullIn w v = leb mostAround (getD w (markAt v + 1) 0)
 
 -- a live cell of that type has the same set of marks
 pub record Same (w : List ℕ) (caps : Caps) (t : ℕ) (marks : List ℕ) (r : Bool) : Type 0 where

@@ -14,9 +14,10 @@ use lists::repeats;
 use lists::same_set;
 use map::Refusal;
 use map::Verdict;
+use numbers::Caps;
+use numbers::MOST_AROUND;
 use shapes::dimension;
 use shapes::mark_count;
-use store::Caps;
 use store::cell_word;
 use store::mark_word;
 use words::part;
@@ -51,7 +52,7 @@ fn one_same(w: &[u32], caps: Caps, t: u32, marks: &[u32], cells: &[u32], n: u32)
 pub fn same_cell(w: &[u32], caps: Caps, t: u32, marks: &[u32]) -> bool
     ensures { λ r. ⌜ Same (now (w .entry)) caps t (now (marks .entry)) r ⌝ }
 {
-    let mut cells = [0u32; 128];
+    let mut cells = [0u32; MOST_AROUND as usize];
     let n = gather(w, caps, word(marks, 0), &mut cells);
     one_same(w, caps, t, marks, &cells, n)
 }
@@ -62,7 +63,7 @@ pub fn full_mark(w: &[u32], marks: &[u32]) -> bool
 {
     let mut i = 0;
     while i < marks.len() {
-        if 128 <= mark_word(w, marks[i], 1) {
+        if MOST_AROUND <= mark_word(w, marks[i], 1) {
             return true;
         }
         i += 1;

@@ -8,7 +8,7 @@ use lib.ListN.{getD, length, take}
 use Rattle.lists.proofs.Bools.{clash, not-true-false}
 use Rattle.numbers.specs.declared.Half.{Half}
 use Rattle.numbers.specs.Half.{halfOf}
-use Rattle.store.specs.declared.Caps.{Caps}
+use Rattle.numbers.specs.declared.Caps.{Caps}
 use Rattle.store.specs.declared.Opened.the-variants.{Mesh, Nothing}
 use Rattle.store.specs.Layout.{markAt, cellAt}
 use Rattle.store.specs.Slots.{isMesh}

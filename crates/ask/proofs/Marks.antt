@@ -12,7 +12,7 @@ use Rattle.lists.proofs.Bools.{clash}
 use Rattle.words.specs.Words.{partOf, Part}
 use Rattle.words.proofs.Fits.{part-fits}
 use Rattle.shapes.specs.Shapes.{shape}
-use Rattle.store.specs.declared.Caps.{Caps}
+use Rattle.numbers.specs.declared.Caps.{Caps}
 use Rattle.store.specs.declared.Opened.the-variants.{Mesh, Nothing}
 use Rattle.store.specs.Layout.{room, cellAt}
 use Rattle.store.specs.Slots.{isMesh}

@@ -10,7 +10,7 @@ use Rattle.numbers.specs.Half.{halfOf}
 use Rattle.numbers.proofs.Inverse.{half-uncut}
 use Rattle.shapes.proofs.Today.{four-facets, four-types}
 use Rattle.shapes.specs.Shapes.{shape, facetCount}
-use Rattle.store.specs.declared.Caps.{Caps}
+use Rattle.numbers.specs.declared.Caps.{Caps}
 use Rattle.store.specs.Layout.{markAt, cellAt, Head, Mark, Cell, address}
 use Rattle.map.specs.Cells.{Map, facetsAt, cellsOf}
 use Rattle.map.specs.Siblings.{isHalf, Half, sibling}

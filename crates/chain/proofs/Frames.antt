@@ -11,7 +11,7 @@ use lib.Dec.{ltb}
 use lib.ListN.{getD, length, List·getD-append}
 use lib.Seq.{getD-append-add}
 use Rattle.lists.proofs.Members.{has-at}
-use Rattle.store.specs.declared.Caps.{Caps}
+use Rattle.numbers.specs.declared.Caps.{Caps}
 use Rattle.store.specs.Layout.{Slot, Head, Mark, Cell, Cold, Within}
 use Rattle.picture.specs.State.{State}
 use Rattle.picture.specs.Picture.{chainOf, link, corner, linkWord, headWords, markWords, cellWords, wordOf}

@@ -11,7 +11,7 @@ use Rattle.lists.specs.Lists.{has}
 use Rattle.lists.proofs.Members.{at-has}
 use Rattle.lists.proofs.Select.{select-same}
 use Rattle.lists.proofs.Counts.{select-more}
-use Rattle.store.specs.declared.Caps.{Caps}
+use Rattle.numbers.specs.declared.Caps.{Caps}
 use Rattle.picture.specs.State.{State}
 use Rattle.picture.specs.Picture.{chainOf, corner}
 use Rattle.picture.specs.Changes.{withLink}

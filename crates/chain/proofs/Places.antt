@@ -10,7 +10,7 @@ use lib.Dec.{eqb}
 use lib.ListN.{getD, length}
 use Rattle.lists.specs.Lists.{repeats}
 use Rattle.lists.proofs.Members.{has-at, once}
-use Rattle.store.specs.declared.Caps.{Caps}
+use Rattle.numbers.specs.declared.Caps.{Caps}
 use Rattle.store.specs.Layout.{markAt, cellAt, Mark, Cell, address}
 use Rattle.store.specs.Slots.{setMark, setCell}
 use Rattle.picture.specs.State.{State}

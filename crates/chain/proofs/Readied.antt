@@ -8,7 +8,7 @@ use lib.ListN.{length}
 use Rattle.lists.specs.Lists.{has, select}
 use Rattle.lists.proofs.Select.{select-same}
 use Rattle.shapes.proofs.Today.{four-marks}
-use Rattle.store.specs.declared.Caps.{Caps}
+use Rattle.numbers.specs.declared.Caps.{Caps}
 use Rattle.map.specs.Cells.{Map, holds}
 use Rattle.map.specs.Stars.{holders}
 use Rattle.map.specs.Sound.{Sound}

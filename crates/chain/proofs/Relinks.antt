@@ -13,7 +13,7 @@ use lib.ListN.{getD, set, length}
 use Rattle.lists.proofs.Bools.{and-left, and-right}
 use Rattle.words.specs.Words.{Only}
 use Rattle.words.proofs.Frame.{only-none, only-then, only-put}
-use Rattle.store.specs.declared.Caps.{Caps}
+use Rattle.numbers.specs.declared.Caps.{Caps}
 use Rattle.store.specs.Layout.{markAt, cellAt, room, Slot, Mark, Cell, address}
 use Rattle.store.specs.Slots.{setMark, setCell}
 use Rattle.store.proofs.Slots.{slot-below}

@@ -6,7 +6,7 @@ use native.Mathlib.Decide.{ℕ-discrete}
 use native.Mathlib.Omega.{arith}
 use lib.ListN.{getD, set, length, length-set}
 use Rattle.words.proofs.Frame.{read-same, read-other}
-use Rattle.store.specs.declared.Caps.{Caps}
+use Rattle.numbers.specs.declared.Caps.{Caps}
 use Rattle.store.specs.Layout.{room, Slot, address, Within}
 use Rattle.store.proofs.Slots.{slot-below, slot-one}
 use Rattle.picture.specs.State.{State}

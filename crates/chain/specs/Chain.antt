@@ -5,20 +5,21 @@ use mathlib.Core.List.{List, _++_}
 use Prim.Native.Nat.{ℕ, _<_, _≤_}
 use lib.ListN.{length, drop}
 use Rattle.lists.specs.Lists.{has, repeats}
-use Rattle.store.specs.declared.Caps.{Caps}
+use Rattle.numbers.specs.declared.Caps.{Caps}
 use Rattle.picture.specs.State.{State}
 use Rattle.picture.specs.Picture.{Pic, chainOf, corner}
+use Rattle.numbers.specs.Sizes.{mostAround}
 
 -- a cell stands only in the chains of its own marks, has at most four, none twice, and no chain is longer than 128
 pub record Linked (caps : Caps) (s : State) : Type 0 where
   pub held : (v c : ℕ) → s .chain v c ≡ true → has v (s .at c .marks) ≡ true
   pub corners : (c : ℕ) → length (s .at c .marks) ≤ 4
   pub distinct : (c : ℕ) → repeats (s .at c .marks) ≡ false
-  pub few : (v : ℕ) → length (chainOf caps s v) ≤ 128
+  pub few : (v : ℕ) → length (chainOf caps s v) ≤ mostAround
 
 -- what `gather` leaves: the count, and the chain in the first places of the output
 pub record Gathered (w : List ℕ) (caps : Caps) (v : ℕ) (o : List ℕ) (r : ℕ) (o′ : List ℕ) : Type 0 where
-  pub few : r ≤ 128
+  pub few : r ≤ mostAround
   pub size : length o′ ≡ length o
   pub list : (s : State) → Pic w caps s → Linked caps s → v < caps .marks
       → (r ≡ length (chainOf caps s v)) × (r ≤ length o → o′ ≡ chainOf caps s v ++ drop r o)
@@ -31,7 +32,7 @@ pub record MaySplice (caps : Caps) (v k c : ℕ) (s : State) : Type 0 where
   pub place : k < length (s .at c .marks)
   pub corner : corner s c k ≡ v
   pub free : s .chain v c ≡ false
-  pub few : length (chainOf caps s v) < 128
+  pub few : length (chainOf caps s v) < mostAround
 
 -- or out of it
 pub record MayUnsplice (caps : Caps) (v k c : ℕ) (s : State) : Type 0 where

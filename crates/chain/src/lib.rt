@@ -11,7 +11,8 @@ ghost use Rattle.picture.specs.Changes.{withLink};
 ghost use Rattle.picture.specs.Step.{Step};
 ghost use Rattle.chain.specs.Chain.{Gathered, MaySplice, MayUnsplice};
 ghost use Rattle.chain.specs.Walk.{cornerIn, linkIn, setLink, Found};
-use store::Caps;
+use numbers::Caps;
+use numbers::MOST_AROUND;
 use store::cell_word;
 use store::mark_word;
 use store::put_cell;
@@ -54,7 +55,7 @@ pub fn gather(w: &[u32], caps: Caps, v: u32, out: &mut [u32]) -> u32
 {
     let mut n: u32 = 0;
     let mut link = mark_word(w, v, 0);
-    while n < 128 {
+    while n < MOST_AROUND {
         if link == 0 {
             return n;
         }
@@ -73,7 +74,7 @@ pub fn find(w: &[u32], caps: Caps, v: u32, c: u32) -> Spot
     let mut before: u32 = 0;
     let mut after = mark_word(w, v, 0);
     let mut n: u32 = 0;
-    while n < 128 {
+    while n < MOST_AROUND {
         if after == 0 {
             return Spot { before, after };
         }
@@ -104,7 +105,7 @@ pub fn splice(w: &mut [u32], caps: Caps, v: u32, k: u32, c: u32)
     ensures { λ _. ⌜ Step caps (now (w .entry)) (now (w .exit)) (MaySplice caps v k c) (λ s. withLink s v c true) ⌝ }
 {
     let count = mark_word(w, v, 1);
-    if 128 <= count {
+    if MOST_AROUND <= count {
         return;
     }
     if 4 <= k {

@@ -12,7 +12,7 @@ use Rattle.lists.proofs.Members.{at-has}
 use Rattle.lists.proofs.Bools.{and-left, and-right}
 use Rattle.lists.proofs.Counts.{neither, none-has}
 use Rattle.shapes.specs.Shapes.{shape, facetCount}
-use Rattle.store.specs.declared.Caps.{Caps}
+use Rattle.numbers.specs.declared.Caps.{Caps}
 use Rattle.map.specs.Cells.{Map, live}
 use Rattle.map.specs.Answers.{Check, _when_, answer, cellChecks, halfChecks, starChecks, setChecks, typeChecks}
 use Rattle.map.specs.Paper.{given, verdictSays}

@@ -9,7 +9,7 @@ use lib.Dec.{leb, ltb, eqb}
 use lib.ListN.{getD, length}
 use Rattle.lists.specs.Lists.{any, repeats}
 use Rattle.shapes.specs.Shapes.{shape, facetCount}
-use Rattle.store.specs.declared.Caps.{Caps}
+use Rattle.numbers.specs.declared.Caps.{Caps}
 use Rattle.store.specs.Layout.{cellAt, Cell, address}
 use Rattle.map.specs.Cells.{Map, live}
 use Rattle.map.specs.Answers.{Check, _when_, answer, cellChecks, halfChecks, starChecks, setChecks, typeChecks}

@@ -9,9 +9,9 @@ use lists::reaches;
 use lists::repeats;
 use map::Refusal;
 use map::Verdict;
+use numbers::Caps;
 use shapes::dimension;
 use shapes::facet_count;
-use store::Caps;
 use store::cell_word;
 
 // A cell: its number is below the capacity, and it is live.

@@ -15,7 +15,7 @@ use Rattle.lists.proofs.Sets.{same-refl}
 use Rattle.shapes.proofs.Today.{four-facets}
 use Rattle.shapes.specs.Shapes.{shape, shapes, noShape}
 use Rattle.shapes.specs.Table.{table}
-use Rattle.store.specs.declared.Caps.{Caps}
+use Rattle.numbers.specs.declared.Caps.{Caps}
 use Rattle.store.specs.Layout.{Slot, Head, Mark, Cell, Cold}
 use Rattle.map.specs.Cells.{Body, Map, holds, facetsAt, cellsOf}
 use Rattle.map.specs.Siblings.{isHalf, marksOf, sibling}

@@ -16,7 +16,7 @@ use Rattle.lists.proofs.Select.{select-same}
 use Rattle.lists.proofs.Counts.{select-fewer, select-more}
 use Rattle.lists.proofs.Alike.{and-false}
 use Rattle.words.proofs.Frame.{only-none, only-then}
-use Rattle.store.specs.declared.Caps.{Caps}
+use Rattle.numbers.specs.declared.Caps.{Caps}
 use Rattle.picture.specs.State.{State}
 use Rattle.picture.specs.Picture.{chainOf, corner, Pic}
 use Rattle.picture.specs.Changes.{withLink}

@@ -11,7 +11,7 @@ use Rattle.lists.specs.Lists.{has}
 use Rattle.shapes.proofs.Today.{four-types}
 use Rattle.shapes.specs.Table.{table}
 use Rattle.words.proofs.Frame.{only-then}
-use Rattle.store.specs.declared.Caps.{Caps}
+use Rattle.numbers.specs.declared.Caps.{Caps}
 use Rattle.map.specs.Cells.{Map, noCell, dimensionAt, holds, cellsOf}
 use Rattle.map.specs.History.{Remove, changed}
 use Rattle.map.specs.Sound.{Sound}

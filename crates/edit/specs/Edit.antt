@@ -7,7 +7,7 @@ use lib.Dec.{eqb}
 use lib.ListN.{length}
 use Rattle.lists.specs.Lists.{has}
 use Rattle.words.specs.Words.{Only}
-use Rattle.store.specs.declared.Caps.{Caps}
+use Rattle.numbers.specs.declared.Caps.{Caps}
 use Rattle.store.specs.Layout.{room}
 use Rattle.map.specs.Cells.{Map}
 use Rattle.map.specs.History.{Edit, editAnswer, changed}

@@ -12,8 +12,8 @@ ghost use Rattle.edit.specs.Edit.{withLinks, MayLink, MayUnlink};
 ghost use Rattle.edit.specs.Cleared.{cleared};
 use chain::splice;
 use chain::unsplice;
+use numbers::Caps;
 use sibling::put_sibling;
-use store::Caps;
 use words::word;
 
 // The cell c, whose marks these are, put into the chain of each.

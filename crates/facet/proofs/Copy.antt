@@ -11,7 +11,7 @@ use Rattle.lists.proofs.Fill.{fill-start, fill-more, filled-take, length-listOf
 use Rattle.words.specs.Words.{partOf}
 use Rattle.words.proofs.Fits.{part-fits}
 use Rattle.shapes.specs.Table.{entry}
-use Rattle.store.specs.declared.Caps.{Caps}
+use Rattle.numbers.specs.declared.Caps.{Caps}
 use Rattle.store.specs.Layout.{cellAt}
 use Rattle.facet.specs.Facet.{codeIn, cornerIn, sizeIn, facetMark, facetIn}
 

@@ -8,7 +8,7 @@ use Rattle.lists.specs.Lists.{sameSet, select, first}
 use Rattle.lists.proofs.Order.{first-select}
 use Rattle.lists.proofs.Counts.{select-empty}
 use Rattle.shapes.specs.Shapes.{facetCount}
-use Rattle.store.specs.declared.Caps.{Caps}
+use Rattle.numbers.specs.declared.Caps.{Caps}
 use Rattle.store.specs.Layout.{cellAt}
 use Rattle.facet.specs.Facet.{codeIn, facetIn, matchIn}
 

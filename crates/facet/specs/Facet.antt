@@ -5,7 +5,7 @@ use lib.ListN.{getD}
 use Rattle.lists.specs.Lists.{sameSet, select, first, listOf}
 use Rattle.shapes.specs.Shapes.{facetCount}
 use Rattle.shapes.specs.Table.{entry}
-use Rattle.store.specs.declared.Caps.{Caps}
+use Rattle.numbers.specs.declared.Caps.{Caps}
 use Rattle.store.specs.Layout.{cellAt}
 
 unfoldable pub codeIn : List ℕ → Caps → ℕ → ℕ

@@ -14,9 +14,10 @@ ghost use Rattle.store.specs.Layout.{cellAt};
 ghost use Rattle.facet.specs.Facet.{codeIn, cornerIn, sizeIn, facetIn, matchIn};
 ghost use Rattle.lists.specs.Filled.{Copied};
 use lists::same_set;
+use numbers::Caps;
+use shapes::FacetTable;
 use shapes::column;
 use shapes::facet_count;
-use store::Caps;
 use store::cell_word;
 use words::part;
 use words::put;
@@ -33,7 +34,7 @@ pub fn corner(w: &[u32], caps: Caps, c: u32, k: u32) -> u32
 }
 
 // How many corners the facet has.
-pub fn facet_size(w: &[u32], caps: Caps, rows: &[[[u8; 5]; 6]; 5], c: u32, f: u32) -> u32
+pub fn facet_size(w: &[u32], caps: Caps, rows: &FacetTable, c: u32, f: u32) -> u32
     ensures { λ r. ⌜ r ≡ sizeIn (now (w .entry)) caps (now (rows .entry)) c f ⌝ }
 {
     let n = column(rows, cell_word(w, caps, c, 0), f, 0);
@@ -41,14 +42,7 @@ pub fn facet_size(w: &[u32], caps: Caps, rows: &[[[u8; 5]; 6]; 5], c: u32, f: u3
 }
 
 // The marks of the facet, written to the first places of out; how many there are.
-pub fn copy_facet(
-    w: &[u32],
-    caps: Caps,
-    rows: &[[[u8; 5]; 6]; 5],
-    c: u32,
-    f: u32,
-    out: &mut [u32],
-) -> u32
+pub fn copy_facet(w: &[u32], caps: Caps, rows: &FacetTable, c: u32, f: u32, out: &mut [u32]) -> u32
     ensures { λ r. ⌜ Copied (facetIn (now (w .entry)) caps (now (rows .entry)) c f) (now (out .entry)) r (now (out .exit)) ⌝ }
 {
     let t = cell_word(w, caps, c, 0);
@@ -64,7 +58,7 @@ pub fn copy_facet(
 }
 
 // Whether the facet has exactly this set of marks.
-fn same_facet(w: &[u32], caps: Caps, rows: &[[[u8; 5]; 6]; 5], c: u32, f: u32, set: &[u32]) -> bool
+fn same_facet(w: &[u32], caps: Caps, rows: &FacetTable, c: u32, f: u32, set: &[u32]) -> bool
     ensures { λ r. ⌜ r ≡ sameSet (now (set .entry)) (facetIn (now (w .entry)) caps (now (rows .entry)) c f) ⌝ }
 {
     let mut marks = [0u32; 4];
@@ -73,7 +67,7 @@ fn same_facet(w: &[u32], caps: Caps, rows: &[[[u8; 5]; 6]; 5], c: u32, f: u32, s
 }
 
 // Whether the facet holds the mark.
-pub fn facet_has(w: &[u32], caps: Caps, rows: &[[[u8; 5]; 6]; 5], c: u32, f: u32, v: u32) -> bool
+pub fn facet_has(w: &[u32], caps: Caps, rows: &FacetTable, c: u32, f: u32, v: u32) -> bool
     ensures { λ r. ⌜ r ≡ has v (facetIn (now (w .entry)) caps (now (rows .entry)) c f) ⌝ }
 {
     let mut marks = [0u32; 4];
@@ -82,7 +76,7 @@ pub fn facet_has(w: &[u32], caps: Caps, rows: &[[[u8; 5]; 6]; 5], c: u32, f: u32
 }
 
 // The first facet of the cell with this set of marks; 8 where there is none.
-pub fn matching(w: &[u32], caps: Caps, rows: &[[[u8; 5]; 6]; 5], c: u32, set: &[u32]) -> u32
+pub fn matching(w: &[u32], caps: Caps, rows: &FacetTable, c: u32, set: &[u32]) -> u32
     ensures { λ r. ⌜ r ≡ matchIn (now (w .entry)) caps (now (rows .entry)) c (now (set .entry)) ⌝ }
 {
     let n = facet_count(cell_word(w, caps, c, 0));

@@ -1,5 +1,6 @@
 // Prints the facet numbering from the proved table: a line for each type, in code order.
 use libc::STDOUT_FILENO;
+use shapes::FacetTable;
 
 fn write_type(t: u32) {
     match t {
@@ -17,7 +18,7 @@ fn write_number(n: u32) {
 }
 
 // One facet, as (0,1).
-fn write_facet(rows: &[[[u8; 5]; 6]; 5], t: u32, f: u32) {
+fn write_facet(rows: &FacetTable, t: u32, f: u32) {
     io::write_all(STDOUT_FILENO, b" (");
     let corners = shapes::column(rows, t, f, 0);
     for k in 0..corners {
@@ -29,7 +30,7 @@ fn write_facet(rows: &[[[u8; 5]; 6]; 5], t: u32, f: u32) {
     io::write_all(STDOUT_FILENO, b")");
 }
 
-fn write_line(rows: &[[[u8; 5]; 6]; 5], t: u32) {
+fn write_line(rows: &FacetTable, t: u32) {
     write_number(t);
     io::write_all(STDOUT_FILENO, b" ");
     write_type(t);

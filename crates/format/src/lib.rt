@@ -9,6 +9,7 @@ ghost use Rattle.format.specs.Formatted.{Formatted};
 ghost use Rattle.format.specs.Cleared.{Cleared};
 use map::Refusal;
 use map::Verdict;
+use numbers::MOST_CAPACITY;
 use words::put;
 
 // The first n words set to 0.
@@ -26,10 +27,10 @@ fn clear(w: &mut [u32], n: usize)
 pub fn format(w: &mut [u32], marks: u32, cells: u32) -> Verdict
     ensures { λ r. ⌜ Formatted (now (w .entry)) marks cells r (now (w .exit)) ⌝ }
 {
-    if 65535 < marks {
+    if MOST_CAPACITY < marks {
         return Verdict::Refused(Refusal::CapacityAbove);
     }
-    if 65535 < cells {
+    if MOST_CAPACITY < cells {
         return Verdict::Refused(Refusal::CapacityAbove);
     }
     let room = 16 + 8 * (marks as usize) + 32 * (cells as usize);

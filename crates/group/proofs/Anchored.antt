@@ -21,7 +21,7 @@ use Rattle.lists.proofs.Keep.{first-either, map-has}
 use Rattle.lists.proofs.Alike.{map-at}
 use Rattle.lists.proofs.Order.{select-ascends, first-least, asc-same}
 use Rattle.numbers.specs.Half.{halfOf}
-use Rattle.store.specs.declared.Caps.{Caps}
+use Rattle.numbers.specs.declared.Caps.{Caps}
 use Rattle.store.specs.Layout.{cellAt}
 use Rattle.map.specs.Cells.{Map, facetsAt}
 use Rattle.map.specs.Siblings.{isHalf, Half, marksOf, sibling, border}

@@ -11,7 +11,7 @@ use lib.ListN.{getD}
 use Rattle.lists.proofs.Bools.{clash, or-cases, or-left, or-right}
 use Rattle.numbers.specs.Half.{halfOf}
 use Rattle.shapes.specs.Shapes.{facetCount}
-use Rattle.store.specs.declared.Caps.{Caps}
+use Rattle.numbers.specs.declared.Caps.{Caps}
 use Rattle.store.specs.Layout.{cellAt}
 use Rattle.facet.specs.Facet.{codeIn}
 use Rattle.group.specs.Labels.{anyBelow, sibAt, meetsIn, metIn, linkedIn}

@@ -10,7 +10,7 @@ use native.Mathlib.Omega.{arith}
 use borrow.Author.Tests.{eq-eqb, ne-eqb}
 use lib.ListN.{length, getD, set, length-set}
 use lib.Seq.{getD-set-same, getD-set-other}
-use Rattle.store.specs.declared.Caps.{Caps}
+use Rattle.numbers.specs.declared.Caps.{Caps}
 use Rattle.group.specs.Labels.{linkedIn, linkIn, Numbered, renamed, Relabelled, Relates, Within, Pairs, Merged, Labelled}
 
 pub number-start : (l : List ℕ) → Numbered 0 l l

@@ -17,7 +17,7 @@ use Rattle.lists.proofs.Keep.{keep-size}
 use Rattle.numbers.specs.Half.{halfOf}
 use Rattle.shapes.specs.Shapes.{Shape, noShape, bar, tri, quad, tetra, shapes, shape, facetCount}
 use Rattle.shapes.proofs.Today.{four-facets}
-use Rattle.store.specs.declared.Caps.{Caps}
+use Rattle.numbers.specs.declared.Caps.{Caps}
 use Rattle.store.specs.Layout.{cellAt, Cell, address}
 use Rattle.map.specs.Cells.{Map, holds, facetsAt, shares}
 use Rattle.map.specs.Siblings.{isHalf, Half, marksOf, siblings, sibling, walk}

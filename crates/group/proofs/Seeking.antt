@@ -11,7 +11,7 @@ use Rattle.lists.proofs.Bools.{clash, not-false-true}
 use Rattle.lists.proofs.Order.{first-select}
 use Rattle.lists.proofs.Counts.{select-empty}
 use Rattle.numbers.specs.Half.{halfOf}
-use Rattle.store.specs.declared.Caps.{Caps}
+use Rattle.numbers.specs.declared.Caps.{Caps}
 use Rattle.store.specs.Layout.{cellAt}
 use Rattle.facet.specs.Facet.{facetIn}
 use Rattle.group.specs.Places.{borderIn, wantedIn, chosenIn, seekIn, placeIn}

@@ -7,9 +7,10 @@ use lib.Dec.{eqb}
 use lib.ListN.{getD, length}
 use Rattle.numbers.specs.Half.{halfOf}
 use Rattle.shapes.specs.Shapes.{facetCount}
-use Rattle.store.specs.declared.Caps.{Caps}
+use Rattle.numbers.specs.declared.Caps.{Caps}
 use Rattle.store.specs.Layout.{cellAt}
 use Rattle.facet.specs.Facet.{codeIn}
+use Rattle.numbers.specs.Sizes.{mostAround}
 
 -- one of the numbers below n passes
 unfoldable pub anyBelow : ℕ → (ℕ → Bool) → Bool
@@ -27,7 +28,7 @@ meetsIn w caps start b (suc k) h = not (eqb h start) && (eqb (h / 8) b || meetsI
 
 -- so on the way from half-facet start round to it
 unfoldable pub metIn : List ℕ → Caps → ℕ → ℕ → Bool
-metIn w caps start b = meetsIn w caps start b 128 (sibAt w caps start)
+metIn w caps start b = meetsIn w caps start b mostAround (sibAt w caps start)
 
 -- cell b is met from a facet of cell a
 unfoldable pub linkedIn : List ℕ → Caps → ℕ → ℕ → Bool

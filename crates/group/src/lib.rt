@@ -15,12 +15,15 @@ ghost use Rattle.star.specs.Listed.{Gives, Reads};
 ghost use Rattle.group.specs.Group.{Around};
 ghost use Rattle.group.specs.Labels.{sibAt, metIn, linkedIn, linkIn, Numbered, Relabelled, Pairs, Merged, Labelled};
 ghost use Rattle.group.specs.Places.{borderIn, wantedIn, chosenIn, seekIn, placeIn, Recalled, anchorsIn};
+ghost use Rattle.numbers.specs.Sizes.{mostAround};
 use facet::facet_has;
+use numbers::Caps;
 use numbers::Cell;
+use numbers::MOST_AROUND;
 use numbers::half_of;
+use shapes::FacetTable;
 use shapes::facet_count;
 use star::star_of;
-use store::Caps;
 use store::cell_word;
 use words::put;
 use words::word;
@@ -37,7 +40,7 @@ fn meets(w: &[u32], caps: Caps, start: u32, b: u32) -> bool
     ensures { λ r. ⌜ r ≡ metIn (now (w .entry)) caps start b ⌝ }
 {
     let mut h = onward(w, caps, start);
-    let mut left: u32 = 128;
+    let mut left: u32 = MOST_AROUND;
     while 0 < left {
         if h == start {
             return false;
@@ -150,7 +153,7 @@ fn wanted(w: &[u32], caps: Caps, c: u32, f: u32, only: bool) -> bool
 fn chosen(
     w: &[u32],
     caps: Caps,
-    rows: &[[[u8; 5]; 6]; 5],
+    rows: &FacetTable,
     v: u32,
     cells: &[u32],
     lab: &[u32],
@@ -175,7 +178,7 @@ fn chosen(
 fn seek(
     w: &[u32],
     caps: Caps,
-    rows: &[[[u8; 5]; 6]; 5],
+    rows: &FacetTable,
     v: u32,
     cells: &[u32],
     lab: &[u32],
@@ -199,7 +202,7 @@ fn seek(
 fn place(
     w: &[u32],
     caps: Caps,
-    rows: &[[[u8; 5]; 6]; 5],
+    rows: &FacetTable,
     v: u32,
     cells: &[u32],
     lab: &[u32],
@@ -220,7 +223,7 @@ fn place(
 fn recall(
     w: &[u32],
     caps: Caps,
-    rows: &[[[u8; 5]; 6]; 5],
+    rows: &FacetTable,
     v: u32,
     cells: &[u32],
     lab: &[u32],
@@ -248,7 +251,7 @@ fn recall(
 fn list(
     w: &[u32],
     caps: Caps,
-    rows: &[[[u8; 5]; 6]; 5],
+    rows: &FacetTable,
     v: u32,
     cells: &[u32],
     lab: &[u32],
@@ -258,7 +261,7 @@ fn list(
 ) -> u32
     ensures { λ r. ⌜ Copied (anchorsIn (placeIn (now (w .entry)) caps (now (rows .entry)) v (now (cells .entry)) (now (lab .entry)) end) (now (cells .entry)) n) (now (out .entry)) r (now (out .exit)) ⌝ }
 {
-    let mut kept = [0u32; 128];
+    let mut kept = [0u32; MOST_AROUND as usize];
     let mut k: u32 = 0;
     let mut i: u32 = 0;
     while i < n {
@@ -274,32 +277,25 @@ fn list(
 }
 
 // The anchors of a mark in a dimension, ascending, written to the first places of out; how many there are.
-pub fn anchors_of(
-    w: &[u32],
-    caps: Caps,
-    rows: &[[[u8; 5]; 6]; 5],
-    d: u32,
-    v: u32,
-    out: &mut [u32],
-) -> u32
-    ensures { λ r. ⌜ Gives (now (w .entry)) caps 128 (Around caps (now (rows .entry)) v) (λ m. anchors m d v) (now (out .entry)) r (now (out .exit)) ⌝ }
+pub fn anchors_of(w: &[u32], caps: Caps, rows: &FacetTable, d: u32, v: u32, out: &mut [u32]) -> u32
+    ensures { λ r. ⌜ Gives (now (w .entry)) caps mostAround (Around caps (now (rows .entry)) v) (λ m. anchors m d v) (now (out .entry)) r (now (out .exit)) ⌝ }
 {
-    let mut cells = [0u32; 128];
+    let mut cells = [0u32; MOST_AROUND as usize];
     let n = star_of(w, caps, d, v, &mut cells);
     // no cell of that dimension, no group
     if n == 0 {
         return 0;
     }
-    let mut lab = [0u32; 128];
+    let mut lab = [0u32; MOST_AROUND as usize];
     labels(w, caps, &cells, n, &mut lab);
     list(w, caps, rows, v, &cells, &lab, n, 8 * n, out)
 }
 
 // The first anchor of a mark in a dimension as number + 1; 0 for none.
-pub fn first_anchor_of(w: &[u32], caps: Caps, rows: &[[[u8; 5]; 6]; 5], d: u32, v: u32) -> u32
+pub fn first_anchor_of(w: &[u32], caps: Caps, rows: &FacetTable, d: u32, v: u32) -> u32
     ensures { λ r. ⌜ Reads (now (w .entry)) caps (Around caps (now (rows .entry)) v) (λ m. next (anchors m d v)) r ⌝ }
 {
-    let mut found = [0u32; 128];
+    let mut found = [0u32; MOST_AROUND as usize];
     let n = anchors_of(w, caps, rows, d, v, &mut found);
     if n == 0 {
         return 0;

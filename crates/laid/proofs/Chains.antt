@@ -11,7 +11,7 @@ use lib.Dec.{eqb, leb, ltb}
 use lib.ListN.{getD, length, length-append}
 use Rattle.lists.specs.Lists.{has, select}
 use Rattle.lists.proofs.Bools.{clash, and-left, and-right, and-both, or-cases, or-left, or-right, not-true-false}
-use Rattle.store.specs.declared.Caps.{Caps}
+use Rattle.numbers.specs.declared.Caps.{Caps}
 use Rattle.store.specs.Layout.{markAt}
 use Rattle.chain.specs.Walk.{linkIn}
 use Rattle.chain.proofs.Nexts.{None, First, firstFrom, from-none, from-first, none-from, first-from, from-full, select-gap, select-first}

@@ -17,7 +17,7 @@ use Rattle.lists.proofs.Every.{at-every}
 use Rattle.words.specs.Words.{partOf}
 use Rattle.shapes.specs.Shapes.{shape, facetCount}
 use Rattle.shapes.proofs.Today.{four-marks, four-facets}
-use Rattle.store.specs.declared.Caps.{Caps}
+use Rattle.numbers.specs.declared.Caps.{Caps}
 use Rattle.store.specs.Layout.{room, markAt, cellAt, coldAt, Slot, Head, Mark, Cell, Cold, address}
 use Rattle.map.specs.Cells.{Map, live, holds, dimensionAt, facetsAt}
 use Rattle.map.specs.Siblings.{isHalf, sibling}

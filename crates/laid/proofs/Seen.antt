@@ -17,7 +17,7 @@ use Rattle.words.specs.Words.{partOf}
 use Rattle.words.proofs.Fits.{part-length, part-word}
 use Rattle.shapes.specs.Shapes.{shape, facetCount}
 use Rattle.shapes.proofs.Today.{four-marks, four-facets}
-use Rattle.store.specs.declared.Caps.{Caps}
+use Rattle.numbers.specs.declared.Caps.{Caps}
 use Rattle.store.specs.Layout.{magic, room, markAt, cellAt, coldAt, Slot, Head, Mark, Cell, Cold, address, Within}
 use Rattle.map.specs.Cells.{Body, noCell}
 use Rattle.picture.specs.State.{State}

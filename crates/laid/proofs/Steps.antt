@@ -9,7 +9,7 @@ use borrow.Author.Tests.{eq-eqb, ne-eqb}
 use denote.Ref.{RefT, now}
 use lib.Dec.{eqb}
 use lib.ListN.{getD}
-use Rattle.store.specs.declared.Caps.{Caps}
+use Rattle.numbers.specs.declared.Caps.{Caps}
 use Rattle.store.specs.Layout.{markAt}
 use Rattle.chain.specs.Walk.{linkIn}
 use Rattle.laid.specs.Laid.{marksIn, MarksAt, standsIn, goesIn, meetsIn, linkedIn}

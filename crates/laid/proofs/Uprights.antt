@@ -18,7 +18,7 @@ use Rattle.words.specs.Words.{partOf}
 use Rattle.words.proofs.Fits.{part-fits}
 use Rattle.shapes.specs.Shapes.{noShape, shapes, shape}
 use Rattle.shapes.proofs.Today.{four-marks}
-use Rattle.store.specs.declared.Caps.{Caps}
+use Rattle.numbers.specs.declared.Caps.{Caps}
 use Rattle.map.specs.Cells.{Body, noCell, live, dimensionAt, holds}
 use Rattle.map.specs.Stars.{holders}
 use Rattle.map.specs.Sound.{Sound}

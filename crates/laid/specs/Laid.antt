@@ -8,10 +8,11 @@ use lib.ListN.{getD}
 use Rattle.lists.specs.Lists.{has, any, all, repeats, every}
 use Rattle.words.specs.Words.{partOf, Part}
 use Rattle.shapes.specs.Shapes.{shape, facetCount}
-use Rattle.store.specs.declared.Caps.{Caps}
+use Rattle.numbers.specs.declared.Caps.{Caps}
 use Rattle.store.specs.Layout.{markAt, cellAt, coldAt}
 use Rattle.facet.specs.Facet.{codeIn}
 use Rattle.chain.specs.Walk.{linkIn}
+use Rattle.numbers.specs.Sizes.{mostAround}
 
 -- the n words from a place on are 0
 unfoldable pub blankIn : List ℕ → ℕ → ℕ → Bool
@@ -58,11 +59,11 @@ meetsIn w caps c v (suc k) (suc d) = eqb d c || meetsIn w caps c v k (linkIn w c
 
 -- the chain of v meets c
 unfoldable pub linkedIn : List ℕ → Caps → ℕ → ℕ → Bool
-linkedIn w caps c v = meetsIn w caps c v 128 (getD w (markAt v + 0) 0)
+linkedIn w caps c v = meetsIn w caps c v mostAround (getD w (markAt v + 0) 0)
 
 -- a mark's record, and its chain
 unfoldable pub markIn : List ℕ → Caps → ℕ → Bool
-markIn w caps v = blankIn w (markAt v + 5) 3 && goesIn w caps v 128 (getD w (markAt v + 0) 0) 0 0
+markIn w caps v = blankIn w (markAt v + 5) 3 && goesIn w caps v mostAround (getD w (markAt v + 0) 0) 0 0
 
 -- a cell's record
 unfoldable pub recordIn : List ℕ → Caps → ℕ → Bool

@@ -5,10 +5,11 @@ use Prim.Native.Nat.{ℕ, _<_, _≤_}
 use lib.ListN.{length}
 use Rattle.lists.specs.Lists.{has, repeats}
 use Rattle.shapes.specs.Shapes.{shape}
-use Rattle.store.specs.declared.Caps.{Caps}
+use Rattle.numbers.specs.declared.Caps.{Caps}
 use Rattle.map.specs.Cells.{noCell, live, dimensionAt, holds}
 use Rattle.map.specs.Stars.{holders}
 use Rattle.picture.specs.State.{State, mapWith}
+use Rattle.numbers.specs.Sizes.{mostAround}
 
 pub record Upright (caps : Caps) (s : State) : Type 0 where
   pub chains : (v c : ℕ) → s .chain v c ≡ holds (mapWith caps s) v c
@@ -18,4 +19,4 @@ pub record Upright (caps : Caps) (s : State) : Type 0 where
   pub fitting : (c : ℕ) → length (s .at c .marks) ≡ shape (s .at c .code) .marks
   pub inside : (v c : ℕ) → holds (mapWith caps s) v c ≡ true → v < caps .marks
   pub distinct : (c : ℕ) → repeats (s .at c .marks) ≡ false
-  pub few : (v : ℕ) → length (holders (mapWith caps s) v) ≤ 128
+  pub few : (v : ℕ) → length (holders (mapWith caps s) v) ≤ mostAround

@@ -11,14 +11,16 @@ ghost use Rattle.lists.specs.Lists.{all, every};
 ghost use Rattle.shapes.specs.Shapes.{shape, facetCount};
 ghost use Rattle.store.specs.Layout.{markAt};
 ghost use Rattle.laid.specs.Laid.{blankIn, MarksAt, typedIn, fineIn, restIn, standsIn, goesIn, linkedIn, markIn, recordIn, cellIn, headIn, laidIn};
+ghost use Rattle.numbers.specs.Sizes.{mostAround};
 use chain::link_after;
 use lists::has;
 use lists::reaches;
 use lists::repeats;
+use numbers::Caps;
+use numbers::MOST_AROUND;
 use shapes::dimension;
 use shapes::facet_count;
 use shapes::mark_count;
-use store::Caps;
 use store::cell_word;
 use store::mark_word;
 use words::part;
@@ -110,7 +112,7 @@ fn linked(w: &[u32], caps: Caps, c: u32, v: u32) -> bool
 {
     let mut link = mark_word(w, v, 0);
     let mut n: u32 = 0;
-    while n < 128 {
+    while n < MOST_AROUND {
         if link == 0 {
             return false;
         }
@@ -162,13 +164,13 @@ fn stands(w: &[u32], caps: Caps, v: u32, low: u32, c: u32) -> bool
 
 // The chain of v: each cell may stand there, they ascend, and the count is theirs.
 fn chain_ok(w: &[u32], caps: Caps, v: u32) -> bool
-    ensures { λ r. ⌜ r ≡ goesIn (now (w .entry)) caps v 128 (getD (now (w .entry)) (markAt v + 0) 0) 0 0 ⌝ }
+    ensures { λ r. ⌜ r ≡ goesIn (now (w .entry)) caps v mostAround (getD (now (w .entry)) (markAt v + 0) 0) 0 0 ⌝ }
 {
     let count = mark_word(w, v, 1);
     let mut link = mark_word(w, v, 0);
     let mut low: u32 = 0;
     let mut n: u32 = 0;
-    while n < 128 {
+    while n < MOST_AROUND {
         if link == 0 {
             return count == n;
         }

@@ -14,7 +14,7 @@ use Rattle.lists.specs.Filled.{Copied}
 use Rattle.lists.proofs.Bools.{clash}
 use Rattle.lists.proofs.Fill.{filled-take, length-listOf, listOf-take}
 use Rattle.words.specs.Words.{Only}
-use Rattle.store.specs.declared.Caps.{Caps}
+use Rattle.numbers.specs.declared.Caps.{Caps}
 use Rattle.store.specs.declared.Opened.the-variants.{Mesh, Nothing}
 use Rattle.store.specs.Open.{opened}
 use Rattle.map.specs.Cells.{Map}

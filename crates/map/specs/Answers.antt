@@ -11,6 +11,7 @@ use Rattle.shapes.specs.Shapes.{shape, facetCount}
 use Rattle.map.specs.Cells.{Map, live, cellsOf, neighbours}
 use Rattle.map.specs.Siblings.{sharers, sibling, cycle, border}
 use Rattle.map.specs.Stars.{holders, star, anchors}
+use Rattle.numbers.specs.Sizes.{mostAround, mostCapacity}
 
 pub record Answer : Type 0 where
   pub refusal : ℕ
@@ -37,7 +38,7 @@ listAnswer checks l places = answer (checks ++ ((12 when ltb places (length l)) 
 -- "Format: 1, 2."
 unfoldable pub formatChecks : ℕ → ℕ → ℕ → List Check
 formatChecks words marks cells =
-    (1 when ltb 65535 marks || ltb 65535 cells) ∷ (2 when ltb words (room marks cells)) ∷ []
+    (1 when ltb mostCapacity marks || ltb mostCapacity cells) ∷ (2 when ltb words (room marks cells)) ∷ []
 
 -- "Insert: 3, 4, 6, 7, 8, 9, 10, 11."
 unfoldable pub insertChecks : Map → ℕ → ℕ → List ℕ → List Check
@@ -49,7 +50,7 @@ insertChecks m c t marks =
     ∷ (8 when any (leb (m .marks)) marks)
     ∷ (9 when repeats marks)
     ∷ (10 when any (λ k. sameSet (m .at k .marks) marks) (cellsOf m t))
-    ∷ (11 when any (λ v. leb 128 (length (holders m v))) marks)
+    ∷ (11 when any (λ v. leb mostAround (length (holders m v))) marks)
     ∷ []
 
 -- "Remove: 3, 5.", and so every query of a cell

@@ -7,6 +7,7 @@ use Rattle.lists.specs.Lists.{repeats, sameSet}
 use Rattle.shapes.specs.Shapes.{shape}
 use Rattle.map.specs.Cells.{Map, noCell, live, dimensionAt, holds}
 use Rattle.map.specs.Stars.{holders}
+use Rattle.numbers.specs.Sizes.{mostAround}
 
 pub record Sound (m : Map) : Type 0 where
   -- live numbers are below the capacity, and under the others stands no cell
@@ -20,4 +21,4 @@ pub record Sound (m : Map) : Type 0 where
   -- no two live cells of one type have the same set of marks
   pub alone : (a b : ℕ) → live m a ≡ true → m .at a .code ≡ m .at b .code → sameSet (m .at a .marks) (m .at b .marks) ≡ true → a ≡ b
   -- "A mark may stand in at most 128 live cells, all dimensions together."
-  pub few : (v : ℕ) → length (holders m v) ≤ 128
+  pub few : (v : ℕ) → length (holders m v) ≤ mostAround

@@ -11,7 +11,7 @@ use Rattle.lists.proofs.Bools.{clash}
 use Rattle.numbers.specs.Room.{room}
 use Rattle.words.specs.Words.{Only}
 use Rattle.words.proofs.Frame.{only-none}
-use Rattle.store.specs.declared.Caps.{Caps}
+use Rattle.numbers.specs.declared.Caps.{Caps}
 use Rattle.store.specs.declared.Opened.the-variants.{Mesh, Nothing}
 use Rattle.store.specs.Open.{opened}
 use Rattle.map.specs.Cells.{Map}

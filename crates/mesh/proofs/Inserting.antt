@@ -10,7 +10,7 @@ use lib.ListN.{getD, length}
 use Rattle.lists.proofs.Select.{select-size}
 use Rattle.words.proofs.Frame.{only-none, only-then}
 use Rattle.shapes.specs.Table.{table}
-use Rattle.store.specs.declared.Caps.{Caps}
+use Rattle.numbers.specs.declared.Caps.{Caps}
 use Rattle.store.specs.Layout.{Head, address}
 use Rattle.map.specs.Cells.{Map, cellsOf}
 use Rattle.map.specs.Answers.{answer, insertChecks}

@@ -14,7 +14,7 @@ use Rattle.words.proofs.Fits.{part-fits}
 use Rattle.words.proofs.Frame.{only-none, only-then}
 use Rattle.shapes.specs.Shapes.{shape}
 use Rattle.shapes.specs.Table.{table}
-use Rattle.store.specs.declared.Caps.{Caps}
+use Rattle.numbers.specs.declared.Caps.{Caps}
 use Rattle.store.specs.Layout.{cellAt}
 use Rattle.map.specs.Cells.{Body, Map, noCell, cellsOf}
 use Rattle.map.specs.Answers.{answer, cellChecks}

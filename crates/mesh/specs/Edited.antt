@@ -7,7 +7,7 @@ use Prim.Native.Nat.{ℕ, _<_}
 use lib.ListN.{getD}
 use Rattle.numbers.specs.Room.{room}
 use Rattle.words.specs.Words.{Only}
-use Rattle.store.specs.declared.Caps.{Caps}
+use Rattle.numbers.specs.declared.Caps.{Caps}
 use Rattle.store.specs.Slots.{isMesh}
 use Rattle.map.specs.Cells.{Map}
 use Rattle.map.specs.History.{Edit, Remove, editAnswer, changed, editedMap}

@@ -17,13 +17,14 @@ use edit::unlink_all;
 use facet::corner;
 use map::Refusal;
 use map::Verdict;
+use numbers::Caps;
 use numbers::Cell;
+use numbers::MOST_CAPACITY;
 use picture::put_body;
 use picture::put_count;
 use settle::settle;
 use shapes::facet_table;
 use shapes::mark_count;
-use store::Caps;
 use store::Opened;
 use store::cell_word;
 use store::open;
@@ -37,7 +38,7 @@ fn make_insert(w: &mut [u32], caps: Caps, c: u32, t: u32, marks: &[u32])
 {
     let rows = facet_table();
     let count = word(w, 4 + (t as usize));
-    if 65535 < count {
+    if MOST_CAPACITY < count {
         return;
     }
     put_body(w, caps, c, t, marks);

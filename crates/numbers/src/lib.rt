@@ -8,6 +8,18 @@ ghost use mathlib.Core.Path.{_≡_};
 ghost use Prim.Native.Nat.{_/_, _%_};
 ghost use Rattle.numbers.specs.Half.{halfOf};
 
+// "Capacities: 0 to 65,535 marks and 0 to 65,535 cells."
+pub const MOST_CAPACITY: u32 = 65535;
+
+// "A mark may stand in at most 128 live cells, all dimensions together."
+pub const MOST_AROUND: u32 = 128;
+
+// The capacities of a mesh.
+pub struct Caps {
+    pub marks: u32,
+    pub cells: u32,
+}
+
 // A mark's number.
 pub struct Mark(pub u32);
 

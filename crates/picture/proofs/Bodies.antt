@@ -11,7 +11,7 @@ use lib.Dec.{eqb, ltb}
 use lib.ListN.{getD, set, length, List·getD-eq-default}
 use Rattle.words.specs.Words.{Only}
 use Rattle.words.proofs.Frame.{only-none, only-then}
-use Rattle.store.specs.declared.Caps.{Caps}
+use Rattle.numbers.specs.declared.Caps.{Caps}
 use Rattle.store.specs.Layout.{cellAt, Slot, Head, Mark, Cell, Cold, address, Within}
 use Rattle.store.specs.Slots.{setCell}
 use Rattle.store.proofs.Writes.{cell-in}

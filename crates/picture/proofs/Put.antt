@@ -8,7 +8,7 @@ use lib.ListN.{getD, set, take, length, length-set, length-take}
 use lib.Seq.{ext-getD, getD-take, length-take-le}
 use Rattle.words.specs.Words.{Only}
 use Rattle.words.proofs.Frame.{read-same, read-other, only-put, only-none, only-then}
-use Rattle.store.specs.declared.Caps.{Caps}
+use Rattle.numbers.specs.declared.Caps.{Caps}
 use Rattle.store.specs.Layout.{room, Slot, address, Within}
 use Rattle.store.proofs.Slots.{slot-below, slot-one, slot-of}
 use Rattle.map.specs.Cells.{Map}

@@ -11,7 +11,7 @@ use lib.ListN.{getD, set, length}
 use Rattle.lists.proofs.Bools.{clash, either, not-true-false, and-left, and-right}
 use Rattle.words.specs.Words.{Only}
 use Rattle.words.proofs.Frame.{only-put, only-none}
-use Rattle.store.specs.declared.Caps.{Caps}
+use Rattle.numbers.specs.declared.Caps.{Caps}
 use Rattle.store.specs.Layout.{room, markAt, cellAt, Slot, Head, Mark, Cell, Cold, address, Within}
 use Rattle.store.specs.Slots.{setMark, setCell}
 use Rattle.store.proofs.Slots.{slot-below}

@@ -6,11 +6,12 @@ use Prim.Native.Nat.{ℕ, suc, _+_, _*_, _<_, _≤_}
 use lib.Dec.{leb, ltb}
 use lib.ListN.{getD, length}
 use Rattle.lists.specs.Lists.{select, keep}
-use Rattle.store.specs.declared.Caps.{Caps}
+use Rattle.numbers.specs.declared.Caps.{Caps}
 use Rattle.store.specs.Layout.{magic, room, Slot, Head, Mark, Cell, Cold, address, Within}
 use Rattle.map.specs.Cells.{Map}
 use Rattle.map.specs.Sound.{Sound}
 use Rattle.picture.specs.State.{State, next, capsOf, stateOf}
+use Rattle.numbers.specs.Sizes.{mostCapacity}
 
 -- the chain of a mark: its cells, ascending
 unfoldable pub chainOf : Caps → State → ℕ → List ℕ
@@ -50,8 +51,8 @@ wordOf caps s (Cold c k) = 0
 
 -- the words are the picture of the state
 pub record Pic (w : List ℕ) (caps : Caps) (s : State) : Type 0 where
-  pub marks : caps .marks ≤ 65535
-  pub cells : caps .cells ≤ 65535
+  pub marks : caps .marks ≤ mostCapacity
+  pub cells : caps .cells ≤ mostCapacity
   pub fits : room (caps .marks) (caps .cells) ≤ length w
   pub words : (x : Slot) → Within (caps .marks) (caps .cells) x → getD w (address (caps .marks) (caps .cells) x) 0 ≡ wordOf caps s x
 

@@ -9,7 +9,7 @@ ghost use Prim.Native.Nat.{_<_, _≤_};
 ghost use Rattle.picture.specs.Changes.{withBody, withAnc, withCount};
 ghost use Rattle.picture.specs.Step.{Step};
 ghost use Rattle.picture.specs.Writes.{MayWrite};
-use store::Caps;
+use numbers::Caps;
 use store::put_cell;
 use store::put_mark;
 use words::put;

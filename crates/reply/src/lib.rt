@@ -21,6 +21,7 @@ use map::Verdict;
 use mesh::insert;
 use mesh::remove;
 use numbers::Cell;
+use numbers::MOST_AROUND;
 use numbers::Mark;
 use words::part;
 
@@ -71,7 +72,7 @@ fn reply_remove(mesh: &mut [u32], c: Cell, out: &mut [u8], at: usize) -> usize
 fn reply_star(mesh: &[u32], d: u32, v: Mark, out: &mut [u8], at: usize) -> usize
     ensures { λ r. ⌜ Answered (Star d (v .0)) (now (mesh .entry)) (now (out .entry)) at r (now (mesh .entry)) (now (out .exit)) ⌝ }
 {
-    let mut cells = [0u32; 128];
+    let mut cells = [0u32; MOST_AROUND as usize];
     match listing::star(mesh, d, v, &mut cells) {
         Value::Refused(why) => write_verdict(out, at, Verdict::Refused(why)),
         Value::Is(n) => write_cells(out, at, part(&cells, 0, n as usize)),
@@ -82,7 +83,7 @@ fn reply_star(mesh: &[u32], d: u32, v: Mark, out: &mut [u8], at: usize) -> usize
 fn reply_anchors(mesh: &[u32], d: u32, v: Mark, out: &mut [u8], at: usize) -> usize
     ensures { λ r. ⌜ Answered (Anchors d (v .0)) (now (mesh .entry)) (now (out .entry)) at r (now (mesh .entry)) (now (out .exit)) ⌝ }
 {
-    let mut halves = [0u32; 128];
+    let mut halves = [0u32; MOST_AROUND as usize];
     match listing::anchors(mesh, d, v, &mut halves) {
         Value::Refused(why) => write_verdict(out, at, Verdict::Refused(why)),
         Value::Is(n) => write_halves(out, at, part(&halves, 0, n as usize)),

@@ -11,7 +11,7 @@ use Rattle.lists.specs.Lists.{any, has}
 use Rattle.lists.proofs.Members.{at-has}
 use Rattle.lists.proofs.Alike.{and-false}
 use Rattle.words.proofs.Frame.{only-none, only-then}
-use Rattle.store.specs.declared.Caps.{Caps}
+use Rattle.numbers.specs.declared.Caps.{Caps}
 use Rattle.map.specs.Cells.{Map}
 use Rattle.map.specs.Siblings.{isHalf, sibling}
 use Rattle.map.specs.Stars.{anchors}

@@ -10,7 +10,7 @@ use lib.Dec.{eqb}
 use lib.ListN.{getD}
 use Rattle.lists.specs.Lists.{has, any}
 use Rattle.lists.proofs.Alike.{and-false}
-use Rattle.store.specs.declared.Caps.{Caps}
+use Rattle.numbers.specs.declared.Caps.{Caps}
 use Rattle.store.specs.Layout.{Slot, Head, Mark, Cell, Cold, Within}
 use Rattle.map.specs.Cells.{Map}
 use Rattle.map.specs.Siblings.{isHalf}

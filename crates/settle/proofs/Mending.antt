@@ -10,7 +10,7 @@ use lib.Seq.{drop-cons}
 use Rattle.words.proofs.Frame.{only-none, only-then}
 use Rattle.shapes.specs.Shapes.{shape, facetCount}
 use Rattle.shapes.specs.Table.{table}
-use Rattle.store.specs.declared.Caps.{Caps}
+use Rattle.numbers.specs.declared.Caps.{Caps}
 use Rattle.map.specs.Cells.{Map, holds}
 use Rattle.map.specs.Sound.{Sound}
 use Rattle.picture.specs.State.{State, mapWith}

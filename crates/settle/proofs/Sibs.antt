@@ -8,7 +8,7 @@ use lib.ListN.{length}
 use Rattle.lists.specs.Lists.{has, any, sameSet, after}
 use Rattle.lists.proofs.Bools.{clash, either, not-true-false, and-left, and-right, and-both, or-left, or-right}
 use Rattle.lists.proofs.Sets.{same-sym}
-use Rattle.store.specs.declared.Caps.{Caps}
+use Rattle.numbers.specs.declared.Caps.{Caps}
 use Rattle.map.specs.Cells.{Map}
 use Rattle.map.specs.Siblings.{isHalf, Half, marksOf, sharers, siblings, sibling}
 use Rattle.map.specs.Sound.{Sound}

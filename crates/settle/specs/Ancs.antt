@@ -6,7 +6,7 @@ use Prim.Native.Nat.{ℕ, _<_, _≤_}
 use Rattle.lists.specs.Lists.{has}
 use Rattle.words.specs.Words.{Only}
 use Rattle.shapes.specs.Table.{table}
-use Rattle.store.specs.declared.Caps.{Caps}
+use Rattle.numbers.specs.declared.Caps.{Caps}
 use Rattle.store.specs.Layout.{room}
 use Rattle.picture.specs.State.{State, mapWith, stateOf}
 use Rattle.picture.specs.Picture.{Pic}

@@ -2,7 +2,7 @@
 use mathlib.Core.List.{List}
 use Prim.Native.Nat.{ℕ, _<_}
 use Rattle.words.specs.Words.{Only}
-use Rattle.store.specs.declared.Caps.{Caps}
+use Rattle.numbers.specs.declared.Caps.{Caps}
 use Rattle.store.specs.Layout.{room}
 use Rattle.picture.specs.State.{State}
 use Rattle.picture.specs.Picture.{Pic}

@@ -7,7 +7,7 @@ use lib.ListN.{getD, length}
 use Rattle.lists.specs.Lists.{has, any, sameSet}
 use Rattle.shapes.specs.Shapes.{shape}
 use Rattle.shapes.specs.Table.{table}
-use Rattle.store.specs.declared.Caps.{Caps}
+use Rattle.numbers.specs.declared.Caps.{Caps}
 use Rattle.map.specs.Cells.{Map}
 use Rattle.map.specs.Siblings.{isHalf, marksOf}
 use Rattle.picture.specs.State.{State, mapWith, stateOf}

@@ -15,11 +15,12 @@ ghost use Rattle.settle.specs.Ancs.{Anchors, threeAncs};
 ghost use Rattle.settle.specs.Settle.{MaySettle, settled};
 ghost use Rattle.group.specs.Group.{Around};
 use group::first_anchor_of;
+use numbers::Caps;
 use picture::put_anchor;
+use shapes::FacetTable;
 use shapes::column;
 use shapes::facet_count;
 use sibling::mend;
-use store::Caps;
 use words::part;
 use words::put;
 use words::word;
@@ -32,7 +33,7 @@ fn four_at_most(n: u32) -> u32
 }
 
 // The set of marks of a facet of the type, written to the first places of out; how many there are.
-fn facet_set(rows: &[[[u8; 5]; 6]; 5], t: u32, f: u32, marks: &[u32], out: &mut [u32]) -> u32
+fn facet_set(rows: &FacetTable, t: u32, f: u32, marks: &[u32], out: &mut [u32]) -> u32
     ensures { λ r. ⌜ Copied (setIn (now (rows .entry)) t f (now (marks .entry))) (now (out .entry)) r (now (out .exit)) ⌝ }
 {
     let n = four_at_most(column(rows, t, f, 0));
@@ -50,7 +51,7 @@ fn facet_set(rows: &[[[u8; 5]; 6]; 5], t: u32, f: u32, marks: &[u32], out: &mut 
 }
 
 // One facet's set mended.
-fn mend_facet(w: &mut [u32], caps: Caps, rows: &[[[u8; 5]; 6]; 5], t: u32, f: u32, marks: &[u32])
+fn mend_facet(w: &mut [u32], caps: Caps, rows: &FacetTable, t: u32, f: u32, marks: &[u32])
     ensures { λ _. ⌜ Step caps (now (w .entry)) (now (w .exit)) (MayMend caps (now (rows .entry)) (setIn (now (rows .entry)) t f (now (marks .entry)))) (mended caps (setIn (now (rows .entry)) t f (now (marks .entry)))) ⌝ }
 {
     let mut set = [0u32; 4];
@@ -59,7 +60,7 @@ fn mend_facet(w: &mut [u32], caps: Caps, rows: &[[[u8; 5]; 6]; 5], t: u32, f: u3
 }
 
 // The sets of all facets mended.
-pub fn mend_all(w: &mut [u32], caps: Caps, rows: &[[[u8; 5]; 6]; 5], t: u32, marks: &[u32])
+pub fn mend_all(w: &mut [u32], caps: Caps, rows: &FacetTable, t: u32, marks: &[u32])
     ensures { λ _. ⌜ Mends caps (now (rows .entry)) t (now (marks .entry)) (now (w .entry)) (now (w .exit)) [] ⌝ }
 {
     let n = facet_count(t);
@@ -71,7 +72,7 @@ pub fn mend_all(w: &mut [u32], caps: Caps, rows: &[[[u8; 5]; 6]; 5], t: u32, mar
 }
 
 // The first anchors of one mark, in each dimension.
-fn anchor_mark(w: &mut [u32], caps: Caps, rows: &[[[u8; 5]; 6]; 5], v: u32)
+fn anchor_mark(w: &mut [u32], caps: Caps, rows: &FacetTable, v: u32)
     ensures { λ _. ⌜ Step caps (now (w .entry)) (now (w .exit)) (Around caps (now (rows .entry)) v) (λ s. threeAncs caps s s v) ⌝ }
 {
     let bars = first_anchor_of(w, caps, rows, 1, v);
@@ -83,7 +84,7 @@ fn anchor_mark(w: &mut [u32], caps: Caps, rows: &[[[u8; 5]; 6]; 5], v: u32)
 }
 
 // The first anchors of all marks.
-pub fn anchor_all(w: &mut [u32], caps: Caps, rows: &[[[u8; 5]; 6]; 5], marks: &[u32])
+pub fn anchor_all(w: &mut [u32], caps: Caps, rows: &FacetTable, marks: &[u32])
     ensures { λ _. ⌜ Anchors caps (now (rows .entry)) (now (marks .entry)) (now (w .entry)) (now (w .exit)) [] ⌝ }
 {
     let mut i: usize = 0;
@@ -94,7 +95,7 @@ pub fn anchor_all(w: &mut [u32], caps: Caps, rows: &[[[u8; 5]; 6]; 5], marks: &[
 }
 
 // The siblings of the cell's sets and the first anchors of its marks.
-pub fn settle(w: &mut [u32], caps: Caps, rows: &[[[u8; 5]; 6]; 5], t: u32, marks: &[u32])
+pub fn settle(w: &mut [u32], caps: Caps, rows: &FacetTable, t: u32, marks: &[u32])
     ensures { λ _. ⌜ Step caps (now (w .entry)) (now (w .exit)) (MaySettle caps (now (rows .entry)) t (now (marks .entry))) (settled caps) ⌝ }
 {
     mend_all(w, caps, rows, t, marks);

@@ -10,21 +10,29 @@ ghost use Prim.Native.Nat.{_+_};
 ghost use Rattle.shapes.specs.Shapes.{shape, facetCount};
 ghost use Rattle.shapes.specs.Table.{table, entry};
 
-// How many codes the table has, 0 for no type among them; the facets and the columns of its rows.
-const TYPES: usize = 5;
+// How many codes the table has, 0 for no type among them.
+pub const CODES: u32 = 5;
 
-const ROWS: usize = 6;
+// No type has more marks, or more facets; no facet has more corners.
+pub const MOST_MARKS: u32 = 8;
 
-const COLUMNS: usize = 5;
+pub const MOST_FACETS: u32 = 6;
 
-const DIMENSIONS: [u8; TYPES] = [0, 1, 2, 2, 3];
+pub const MOST_CORNERS: u32 = 4;
 
-const MARKS: [u8; TYPES] = [0, 2, 3, 4, 4];
-
-const FACETS: [u8; TYPES] = [0, 2, 3, 4, 4];
+// A facet's row of the table: the count of its corners, then their places.
+const COLUMNS: u32 = 5;
 
 // For each type its facets, each as the count of its corners and their places, padded with 0.
-const PLACES: [[[u8; COLUMNS]; ROWS]; TYPES] = [
+pub type FacetTable = [[[u8; COLUMNS as usize]; MOST_FACETS as usize]; CODES as usize];
+
+const DIMENSIONS: [u8; CODES as usize] = [0, 1, 2, 2, 3];
+
+const MARKS: [u8; CODES as usize] = [0, 2, 3, 4, 4];
+
+const FACETS: [u8; CODES as usize] = [0, 2, 3, 4, 4];
+
+const PLACES: FacetTable = [
     [
         [0, 0, 0, 0, 0],
         [0, 0, 0, 0, 0],
@@ -74,7 +82,7 @@ fn wide(x: u8) -> u32
 }
 
 // The whole table, by value.
-pub fn facet_table() -> [[[u8; COLUMNS]; ROWS]; TYPES]
+pub fn facet_table() -> FacetTable
     ensures { λ r. ⌜ r ≡ table ⌝ }
 {
     PLACES
@@ -84,7 +92,7 @@ pub fn facet_table() -> [[[u8; COLUMNS]; ROWS]; TYPES]
 pub fn dimension(t: u32) -> u32
     ensures { λ r. ⌜ r ≡ shape t .dimension ⌝ }
 {
-    if t < 5 {
+    if t < CODES {
         wide(DIMENSIONS[t as usize])
     } else {
         0
@@ -95,28 +103,36 @@ pub fn dimension(t: u32) -> u32
 pub fn mark_count(t: u32) -> u32
     ensures { λ r. ⌜ r ≡ shape t .marks ⌝ }
 {
-    if t < 5 { wide(MARKS[t as usize]) } else { 0 }
+    if t < CODES {
+        wide(MARKS[t as usize])
+    } else {
+        0
+    }
 }
 
 // The count of a type's facets.
 pub fn facet_count(t: u32) -> u32
     ensures { λ r. ⌜ r ≡ facetCount t ⌝ }
 {
-    if t < 5 { wide(FACETS[t as usize]) } else { 0 }
+    if t < CODES {
+        wide(FACETS[t as usize])
+    } else {
+        0
+    }
 }
 
 // The table's number at a type, a facet and a column: in column 0 the count of the facet's corners, in
 // column 1 + k the place of corner k.
-pub fn column(rows: &[[[u8; COLUMNS]; ROWS]; TYPES], t: u32, f: u32, k: u32) -> u32
+pub fn column(rows: &FacetTable, t: u32, f: u32, k: u32) -> u32
     ensures { λ r. ⌜ r ≡ entry (now (rows .entry)) t f k ⌝ }
 {
-    if 5 <= t {
+    if CODES <= t {
         return 0;
     }
-    if 6 <= f {
+    if MOST_FACETS <= f {
         return 0;
     }
-    if 5 <= k {
+    if COLUMNS <= k {
         return 0;
     }
     wide(rows[t as usize][f as usize][k as usize])

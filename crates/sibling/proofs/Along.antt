@@ -19,7 +19,7 @@ use Rattle.lists.proofs.Keep.{keep-in, keep-out, first-either, map-has}
 use Rattle.lists.proofs.Alike.{map-at}
 use Rattle.numbers.specs.Half.{halfOf}
 use Rattle.numbers.proofs.Inverse.{half-whole}
-use Rattle.store.specs.declared.Caps.{Caps}
+use Rattle.numbers.specs.declared.Caps.{Caps}
 use Rattle.map.specs.Cells.{Map, holds, facetsAt}
 use Rattle.map.specs.Siblings.{isHalf, marksOf, sharers}
 use Rattle.map.specs.Sound.{Sound}

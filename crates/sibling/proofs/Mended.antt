@@ -17,7 +17,7 @@ use Rattle.lists.specs.Filled.{Copied}
 use Rattle.lists.proofs.Members.{at-has, has-append, has-one}
 use Rattle.lists.proofs.Cyclic.{after-at}
 use Rattle.words.proofs.Frame.{only-none, only-then}
-use Rattle.store.specs.declared.Caps.{Caps}
+use Rattle.numbers.specs.declared.Caps.{Caps}
 use Rattle.map.specs.Cells.{facetsAt}
 use Rattle.map.specs.Siblings.{isHalf, sharers}
 use Rattle.laws.proofs.Cycles.{sharers-has, sharers-ascend}

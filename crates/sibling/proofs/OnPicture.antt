@@ -19,7 +19,7 @@ use Rattle.shapes.specs.Facts.{facetAt}
 use Rattle.shapes.proofs.Facts.{facts}
 use Rattle.shapes.proofs.Today.{four-marks, four-facets}
 use Rattle.shapes.proofs.Padded.{table-size, table-place}
-use Rattle.store.specs.declared.Caps.{Caps}
+use Rattle.numbers.specs.declared.Caps.{Caps}
 use Rattle.store.specs.Layout.{Cell, address}
 use Rattle.map.specs.Cells.{Map, holds, facetsAt}
 use Rattle.map.specs.Stars.{holders}

@@ -7,7 +7,7 @@ use native.Mathlib.Omega.{arith}
 use borrow.Author.Tests.{eq-eqb, ne-eqb}
 use Rattle.words.specs.Words.{Only}
 use Rattle.words.proofs.Frame.{only-none, only-put}
-use Rattle.store.specs.declared.Caps.{Caps}
+use Rattle.numbers.specs.declared.Caps.{Caps}
 use Rattle.store.specs.Layout.{room, Slot, Head, Mark, Cell, Cold, address}
 use Rattle.store.specs.Slots.{setCell}
 use Rattle.store.proofs.Slots.{slot-below}

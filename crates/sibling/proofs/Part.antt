@@ -7,7 +7,7 @@ use lib.ListN.{getD, length, take, drop, length-drop}
 use lib.Seq.{ext-getD, getD-take, getD-drop, length-take-le}
 use Rattle.words.specs.Words.{partOf}
 use Rattle.words.proofs.Fits.{part-fits}
-use Rattle.store.specs.declared.Caps.{Caps}
+use Rattle.numbers.specs.declared.Caps.{Caps}
 use Rattle.store.specs.Layout.{room, cellAt}
 use Rattle.picture.specs.State.{State}
 use Rattle.picture.specs.Picture.{Pic}

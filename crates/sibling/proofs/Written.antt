@@ -17,7 +17,7 @@ use Rattle.lists.proofs.Alike.{keep-same}
 use Rattle.lists.proofs.Select.{select-out}
 use Rattle.numbers.specs.Half.{halfOf}
 use Rattle.numbers.proofs.Inverse.{half-uncut}
-use Rattle.store.specs.declared.Caps.{Caps}
+use Rattle.numbers.specs.declared.Caps.{Caps}
 use Rattle.map.specs.Siblings.{sharers}
 use Rattle.picture.specs.State.{State, mapWith}
 use Rattle.picture.specs.Picture.{Pic, chainOf}

@@ -7,11 +7,12 @@ use lib.ListN.{getD, length}
 use Rattle.lists.specs.Lists.{has, after}
 use Rattle.lists.specs.Filled.{Copied}
 use Rattle.shapes.specs.Table.{table}
-use Rattle.store.specs.declared.Caps.{Caps}
+use Rattle.numbers.specs.declared.Caps.{Caps}
 use Rattle.map.specs.Siblings.{sharers}
 use Rattle.picture.specs.State.{State, mapWith}
 use Rattle.picture.specs.Picture.{Pic}
 use Rattle.picture.specs.Ready.{Ready}
+use Rattle.numbers.specs.Sizes.{mostAround}
 
 -- the table is the table of types, and the set has a first mark of the mesh
 pub record Asked (caps : Caps) (rows : List (List (List ℕ))) (set : List ℕ) : Type 0 where
@@ -21,7 +22,7 @@ pub record Asked (caps : Caps) (rows : List (List (List ℕ))) (set : List ℕ) 
 
 -- what `sharers` leaves
 pub record Shared (w : List ℕ) (caps : Caps) (rows : List (List (List ℕ))) (set o : List ℕ) (r : ℕ) (o′ : List ℕ) : Type 0 where
-  pub few : r ≤ 128
+  pub few : r ≤ mostAround
   pub size : length o′ ≡ length o
   pub list : (s : State) → Pic w caps s → Ready caps s → Asked caps rows set → Copied (sharers (mapWith caps s) set) o r o′
 

@@ -13,19 +13,21 @@ ghost use Rattle.sibling.specs.Shared.{Shared, MayMend, mended};
 use chain::gather;
 use facet::copy_facet;
 use facet::matching;
+use numbers::Caps;
 use numbers::Cell;
+use numbers::MOST_AROUND;
 use numbers::half_of;
-use store::Caps;
+use shapes::FacetTable;
 use store::put_cell;
 use words::part;
 use words::put;
 use words::word;
 
 // The half-facets with this set of marks, ascending, written to the first places of out; how many there are.
-pub fn sharers(w: &[u32], caps: Caps, rows: &[[[u8; 5]; 6]; 5], set: &[u32], out: &mut [u32]) -> u32
+pub fn sharers(w: &[u32], caps: Caps, rows: &FacetTable, set: &[u32], out: &mut [u32]) -> u32
     ensures { λ r. ⌜ Shared (now (w .entry)) caps (now (rows .entry)) (now (set .entry)) (now (out .entry)) r (now (out .exit)) ⌝ }
 {
-    let mut cells = [0u32; 128];
+    let mut cells = [0u32; MOST_AROUND as usize];
     let count = gather(w, caps, word(set, 0), &mut cells);
     let mut n: u32 = 0;
     let mut i: u32 = 0;
@@ -46,7 +48,7 @@ pub fn sharers(w: &[u32], caps: Caps, rows: &[[[u8; 5]; 6]; 5], set: &[u32], out
 pub fn facet_sharers(
     w: &[u32],
     caps: Caps,
-    rows: &[[[u8; 5]; 6]; 5],
+    rows: &FacetTable,
     c: u32,
     f: u32,
     out: &mut [u32],
@@ -69,10 +71,10 @@ pub fn put_sibling(w: &mut [u32], caps: Caps, h: u32, x: u32)
 }
 
 // Each half-facet with this set of marks leads to the next, and the last to the first.
-pub fn mend(w: &mut [u32], caps: Caps, rows: &[[[u8; 5]; 6]; 5], set: &[u32])
+pub fn mend(w: &mut [u32], caps: Caps, rows: &FacetTable, set: &[u32])
     ensures { λ _. ⌜ Step caps (now (w .entry)) (now (w .exit)) (MayMend caps (now (rows .entry)) (now (set .entry))) (mended caps (now (set .entry))) ⌝ }
 {
-    let mut halves = [0u32; 128];
+    let mut halves = [0u32; MOST_AROUND as usize];
     let n = sharers(w, caps, rows, set, &mut halves);
     let mut i: u32 = 0;
     while i < n {

@@ -17,7 +17,7 @@ use Rattle.lists.proofs.Alike.{keep-same}
 use Rattle.lists.proofs.Order.{keep-select}
 use Rattle.lists.proofs.Select.{select-out, select-same}
 use Rattle.shapes.specs.Shapes.{shape}
-use Rattle.store.specs.declared.Caps.{Caps}
+use Rattle.numbers.specs.declared.Caps.{Caps}
 use Rattle.store.specs.Layout.{cellAt, Cell, address}
 use Rattle.map.specs.Cells.{Map, holds, dimensionAt}
 use Rattle.map.specs.Stars.{holders, star}

@@ -8,9 +8,11 @@ ghost use Rattle.star.specs.Listed.{Gives, AtMark};
 ghost use Rattle.star.specs.Along.{kept};
 ghost use Rattle.lists.specs.Filled.{Copied};
 ghost use lib.ListN.{take};
+ghost use Rattle.numbers.specs.Sizes.{mostAround};
 use chain::gather;
+use numbers::Caps;
+use numbers::MOST_AROUND;
 use shapes::dimension;
-use store::Caps;
 use store::cell_word;
 use words::put;
 use words::word;
@@ -34,9 +36,9 @@ fn keep_dimension(w: &[u32], caps: Caps, d: u32, cells: &[u32], n: u32, out: &mu
 
 // The star of a mark in a dimension, written to the first places of out; how many cells it has.
 pub fn star_of(w: &[u32], caps: Caps, d: u32, v: u32, out: &mut [u32]) -> u32
-    ensures { λ r. ⌜ Gives (now (w .entry)) caps 128 (AtMark caps v) (λ m. star m d v) (now (out .entry)) r (now (out .exit)) ⌝ }
+    ensures { λ r. ⌜ Gives (now (w .entry)) caps mostAround (AtMark caps v) (λ m. star m d v) (now (out .entry)) r (now (out .exit)) ⌝ }
 {
-    let mut cells = [0u32; 128];
+    let mut cells = [0u32; MOST_AROUND as usize];
     let n = gather(w, caps, v, &mut cells);
     keep_dimension(w, caps, d, &cells, n, out)
 }

@@ -6,7 +6,7 @@ use Prim.Native.Nat.{ℕ, _+_, _*_, _<_, _≤_}
 use borrow.Author.Tests.{lt-ltb, le-ltb, le-leb, lt-leb, eq-eqb, ne-eqb}
 use lib.Dec.{leb, ltb, eqb}
 use lib.ListN.{getD, set, length}
-use Rattle.store.specs.declared.Caps.{Caps}
+use Rattle.numbers.specs.declared.Caps.{Caps}
 use Rattle.store.specs.declared.Opened.the-variants.{Mesh, Nothing}
 use Rattle.store.specs.Layout.{markAt, cellAt, room, magic}
 use Rattle.store.specs.Slots.{setMark, setCell, isMesh}

@@ -4,8 +4,9 @@ use mathlib.Core.List.{List}
 use Prim.Native.Nat.{ℕ, _+_}
 use lib.Dec.{leb, ltb, eqb}
 use lib.ListN.{getD, set, length}
-use Rattle.store.specs.declared.Caps.{Caps}
+use Rattle.numbers.specs.declared.Caps.{Caps}
 use Rattle.store.specs.Layout.{markAt, cellAt, room, magic}
+use Rattle.numbers.specs.Sizes.{mostCapacity}
 
 -- a word is written only inside its record
 unfoldable pub setMark : List ℕ → Caps → ℕ → ℕ → ℕ → List ℕ
@@ -19,4 +20,4 @@ setCell w caps c k x = cond (ltb c (caps .cells) && ltb k 16) (set w (cellAt (ca
 unfoldable pub isMesh : List ℕ → Bool
 isMesh w =
     leb 16 (length w)
-    && (eqb (getD w 0 0) magic && (leb (getD w 1 0) 65535 && (leb (getD w 2 0) 65535 && leb (room (getD w 1 0) (getD w 2 0)) (length w))))
+    && (eqb (getD w 0 0) magic && (leb (getD w 1 0) mostCapacity && (leb (getD w 2 0) mostCapacity && leb (room (getD w 1 0) (getD w 2 0)) (length w))))

@@ -10,14 +10,10 @@ ghost use lib.ListN.{getD};
 ghost use Rattle.store.specs.Layout.{markAt, cellAt};
 ghost use Rattle.store.specs.Slots.{setMark, setCell};
 ghost use Rattle.store.specs.Open.{opened};
+use numbers::Caps;
+use numbers::MOST_CAPACITY;
 use words::put;
 use words::word;
-
-// The capacities of a mesh.
-pub struct Caps {
-    pub marks: u32,
-    pub cells: u32,
-}
 
 // What memory is.
 pub enum Opened {
@@ -37,10 +33,10 @@ pub fn open(w: &[u32]) -> Opened
     }
     let marks = word(w, 1);
     let cells = word(w, 2);
-    if 65535 < marks {
+    if MOST_CAPACITY < marks {
         return Opened::Nothing;
     }
-    if 65535 < cells {
+    if MOST_CAPACITY < cells {
         return Opened::Nothing;
     }
     if w.len() < 16 + 8 * (marks as usize) + 32 * (cells as usize) {

@@ -19,7 +19,7 @@ use Rattle.lists.proofs.Every.{every-at, at-every}
 use Rattle.numbers.specs.Half.{halfOf}
 use Rattle.shapes.specs.Shapes.{shape, facetCount}
 use Rattle.shapes.proofs.Today.{four-facets, type-marks}
-use Rattle.store.specs.declared.Caps.{Caps}
+use Rattle.numbers.specs.declared.Caps.{Caps}
 use Rattle.map.specs.Cells.{Map, live, holds, dimensionAt, facetsAt, cellsOf}
 use Rattle.map.specs.Siblings.{isHalf, Half, sibling}
 use Rattle.map.specs.Stars.{holders, anchors}

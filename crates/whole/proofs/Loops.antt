@@ -5,7 +5,7 @@ use mathlib.Core.List.{List}
 use Prim.Native.Nat.{ℕ, _+_, _<_, _≤_}
 use Rattle.lists.specs.Lists.{every}
 use Rattle.lists.proofs.Every.{every-start, every-more, every-stop, every-end}
-use Rattle.store.specs.declared.Caps.{Caps}
+use Rattle.numbers.specs.declared.Caps.{Caps}
 use Rattle.picture.specs.State.{State}
 use Rattle.picture.specs.Picture.{Pic}
 use Rattle.whole.specs.Tests.{Sees}

@@ -18,7 +18,7 @@ use Rattle.numbers.proofs.Inverse.{half-uncut}
 use Rattle.shapes.specs.Shapes.{noShape, shapes, shape, facetCount}
 use Rattle.shapes.specs.Table.{table}
 use Rattle.shapes.proofs.Today.{four-facets, type-marks}
-use Rattle.store.specs.declared.Caps.{Caps}
+use Rattle.numbers.specs.declared.Caps.{Caps}
 use Rattle.store.specs.Layout.{markAt, cellAt, Mark, Cell, address}
 use Rattle.map.specs.Cells.{Map, live, holds, dimensionAt, facetsAt}
 use Rattle.map.specs.Siblings.{sharers, siblings, sibling, marksOf}

@@ -8,7 +8,7 @@ use native.Mathlib.Omega.{arith}
 use lib.Dec.{ltb}
 use lib.ListN.{getD, length}
 use Rattle.lists.proofs.Select.{select-same}
-use Rattle.store.specs.declared.Caps.{Caps}
+use Rattle.numbers.specs.declared.Caps.{Caps}
 use Rattle.store.specs.Layout.{Slot, Head, Mark, Cell, Cold, Within}
 use Rattle.map.specs.Cells.{Map, holds, cellsOf}
 use Rattle.map.specs.Siblings.{isHalf, sibling}

@@ -9,7 +9,7 @@ use Rattle.lists.specs.Lists.{any, sameSet, select, every}
 use Rattle.numbers.specs.Half.{halfOf}
 use Rattle.shapes.specs.Shapes.{facetCount}
 use Rattle.shapes.specs.Table.{table}
-use Rattle.store.specs.declared.Caps.{Caps}
+use Rattle.numbers.specs.declared.Caps.{Caps}
 use Rattle.map.specs.Cells.{Map}
 use Rattle.map.specs.Siblings.{sibling}
 use Rattle.map.specs.Stars.{holders, anchors}

@@ -18,12 +18,14 @@ use group::first_anchor_of;
 use laid::laid;
 use laid::marks_at;
 use lists::same_set;
+use numbers::Caps;
 use numbers::Cell;
+use numbers::MOST_AROUND;
 use numbers::half_of;
+use shapes::FacetTable;
 use shapes::facet_count;
 use shapes::facet_table;
 use sibling::facet_sharers;
-use store::Caps;
 use store::Opened;
 use store::cell_word;
 use store::mark_word;
@@ -65,7 +67,7 @@ fn lone(w: &[u32], caps: Caps, c: u32) -> bool
         return true;
     }
     let v = cell_word(w, caps, c, 1);
-    let mut cells = [0u32; 128];
+    let mut cells = [0u32; MOST_AROUND as usize];
     let n = gather(w, caps, v, &mut cells);
     !twins(w, caps, c, &cells, n)
 }
@@ -103,10 +105,10 @@ fn next_in(list: &[u32], n: u32, h: u32) -> u32
 }
 
 // Whether the stored sibling of a half-facet is the sibling.
-fn sibling_ok(w: &[u32], caps: Caps, rows: &[[[u8; 5]; 6]; 5], c: u32, f: u32) -> bool
+fn sibling_ok(w: &[u32], caps: Caps, rows: &FacetTable, c: u32, f: u32) -> bool
     ensures { λ r. ⌜ Sees (now (w .entry)) caps (λ s. (Readied caps (now (rows .entry)) s × (c < caps .cells)) × (f < facetCount (codeIn (now (w .entry)) caps c))) (λ s. sibRight caps s c f) r ⌝ }
 {
-    let mut halves = [0u32; 128];
+    let mut halves = [0u32; MOST_AROUND as usize];
     let n = facet_sharers(w, caps, rows, c, f, &mut halves);
     let half = half_of(Cell(c), f);
     let next = next_in(&halves, n, half.0);
@@ -118,7 +120,7 @@ fn sibling_ok(w: &[u32], caps: Caps, rows: &[[[u8; 5]; 6]; 5], c: u32, f: u32) -
 }
 
 // So for each facet of a cell.
-fn siblings_ok(w: &[u32], caps: Caps, rows: &[[[u8; 5]; 6]; 5], c: u32) -> bool
+fn siblings_ok(w: &[u32], caps: Caps, rows: &FacetTable, c: u32) -> bool
     ensures { λ r. ⌜ Sees (now (w .entry)) caps (λ s. Readied caps (now (rows .entry)) s × (c < caps .cells)) (λ s. sibsRight (now (w .entry)) caps s c) r ⌝ }
 {
     let n = facet_count(cell_word(w, caps, c, 0));
@@ -133,7 +135,7 @@ fn siblings_ok(w: &[u32], caps: Caps, rows: &[[[u8; 5]; 6]; 5], c: u32) -> bool
 }
 
 // So for all cells.
-fn all_siblings(w: &[u32], caps: Caps, rows: &[[[u8; 5]; 6]; 5]) -> bool
+fn all_siblings(w: &[u32], caps: Caps, rows: &FacetTable) -> bool
     ensures { λ r. ⌜ Sees (now (w .entry)) caps (Readied caps (now (rows .entry))) (λ s. every (caps .cells) (sibsRight (now (w .entry)) caps s)) r ⌝ }
 {
     let mut c: u32 = 0;
@@ -147,7 +149,7 @@ fn all_siblings(w: &[u32], caps: Caps, rows: &[[[u8; 5]; 6]; 5]) -> bool
 }
 
 // Whether the stored first anchors of a mark are its first anchors.
-fn anchors_ok(w: &[u32], caps: Caps, rows: &[[[u8; 5]; 6]; 5], v: u32) -> bool
+fn anchors_ok(w: &[u32], caps: Caps, rows: &FacetTable, v: u32) -> bool
     ensures { λ r. ⌜ Sees (now (w .entry)) caps (λ s. SettledBy caps (now (rows .entry)) s × (v < caps .marks)) (λ s. ancsRight caps s v) r ⌝ }
 {
     let mut d: u32 = 0;
@@ -161,7 +163,7 @@ fn anchors_ok(w: &[u32], caps: Caps, rows: &[[[u8; 5]; 6]; 5], v: u32) -> bool
 }
 
 // So for all marks.
-fn all_anchors(w: &[u32], caps: Caps, rows: &[[[u8; 5]; 6]; 5]) -> bool
+fn all_anchors(w: &[u32], caps: Caps, rows: &FacetTable) -> bool
     ensures { λ r. ⌜ Sees (now (w .entry)) caps (SettledBy caps (now (rows .entry))) (λ s. every (caps .marks) (ancsRight caps s)) r ⌝ }
 {
     let mut v: u32 = 0;

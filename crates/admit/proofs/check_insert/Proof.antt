@@ -8,47 +8,23 @@ use Rattle.admit.proofs.check_insert.Tie as tie
 returns : tie.Need-returns
 returns c = in-outside _ _ _ _ _ (c .if1 .taken)
 
-cell-word-requires : tie.Need-cell-word-requires
-cell-word-requires c κs = search needs
-
 returns-2 : tie.Need-returns-2
 returns-2 c = in-live _ _ _ _ _ (c .before .before .if1 .left) _ (c .before .cell-word .ensures) (c .if2 .taken)
-
-dimension-requires : tie.Need-dimension-requires
-dimension-requires c κs = search needs
 
 returns-3 : tie.Need-returns-3
 returns-3 c = in-type _ _ _ _ _ (c .before .before .before .before .if1 .left) _ (c .before .before .before .cell-word .ensures) (c .before .before .if2 .left) _ (c .before .dimension .ensures) (c .if3 .taken)
 
-mark-count-requires : tie.Need-mark-count-requires
-mark-count-requires c κs = search needs
-
-cast-if4 : tie.Need-cast-if4
-cast-if4 c = search needs
-
 returns-4 : tie.Need-returns-4
 returns-4 c = in-count _ _ _ _ _ (c .before .before .before .before .before .before .if1 .left) _ (c .before .before .before .before .before .cell-word .ensures) (c .before .before .before .before .if2 .left) _ (c .before .before .before .dimension .ensures) (c .before .before .if3 .left) _ (c .before .mark-count .ensures) (c .if4 .taken)
-
-reaches-requires : tie.Need-reaches-requires
-reaches-requires c κs = search needs
 
 returns-5 : tie.Need-returns-5
 returns-5 c = in-mark _ _ _ _ _ (c .before .before .before .before .before .before .before .before .if1 .left) _ (c .before .before .before .before .before .before .before .cell-word .ensures) (c .before .before .before .before .before .before .if2 .left) _ (c .before .before .before .before .before .dimension .ensures) (c .before .before .before .before .if3 .left) _ (c .before .before .before .mark-count .ensures) (c .before .before .if4 .left) (sym (c .before .reaches .ensures) ∙ (c .if5 .taken))
 
-repeats-requires : tie.Need-repeats-requires
-repeats-requires c κs = search needs
-
 returns-6 : tie.Need-returns-6
 returns-6 c = in-twice _ _ _ _ _ (c .before .before .before .before .before .before .before .before .before .before .if1 .left) _ (c .before .before .before .before .before .before .before .before .before .cell-word .ensures) (c .before .before .before .before .before .before .before .before .if2 .left) _ (c .before .before .before .before .before .before .before .dimension .ensures) (c .before .before .before .before .before .before .if3 .left) _ (c .before .before .before .before .before .mark-count .ensures) (c .before .before .before .before .if4 .left) (sym (c .before .before .before .reaches .ensures) ∙ (c .before .before .if5 .left)) (sym (c .before .repeats .ensures) ∙ (c .if6 .taken))
 
-same-cell-requires : tie.Need-same-cell-requires
-same-cell-requires c κs = search needs
-
 returns-7 : tie.Need-returns-7
 returns-7 c = in-same _ _ _ _ _ (c .before .before .before .before .before .before .before .before .before .before .before .before .if1 .left) _ (c .before .before .before .before .before .before .before .before .before .before .before .cell-word .ensures) (c .before .before .before .before .before .before .before .before .before .before .if2 .left) _ (c .before .before .before .before .before .before .before .before .before .dimension .ensures) (c .before .before .before .before .before .before .before .before .if3 .left) _ (c .before .before .before .before .before .before .before .mark-count .ensures) (c .before .before .before .before .before .before .if4 .left) (sym (c .before .before .before .before .before .reaches .ensures) ∙ (c .before .before .before .before .if5 .left)) (sym (c .before .before .before .repeats .ensures) ∙ (c .before .before .if6 .left)) _ (c .before .same-cell .ensures) (c .if7 .taken)
-
-full-mark-requires : tie.Need-full-mark-requires
-full-mark-requires c κs = search needs
 
 returns-8 : tie.Need-returns-8
 returns-8 c = in-full _ _ _ _ _ (c .before .before .before .before .before .before .before .before .before .before .before .before .before .before .if1 .left) _ (c .before .before .before .before .before .before .before .before .before .before .before .before .before .cell-word .ensures) (c .before .before .before .before .before .before .before .before .before .before .before .before .if2 .left) _ (c .before .before .before .before .before .before .before .before .before .before .before .dimension .ensures) (c .before .before .before .before .before .before .before .before .before .before .if3 .left) _ (c .before .before .before .before .before .before .before .before .before .mark-count .ensures) (c .before .before .before .before .before .before .before .before .if4 .left) (sym (c .before .before .before .before .before .before .before .reaches .ensures) ∙ (c .before .before .before .before .before .before .if5 .left)) (sym (c .before .before .before .before .before .repeats .ensures) ∙ (c .before .before .before .before .if6 .left)) _ (c .before .before .before .same-cell .ensures) (c .before .before .if7 .left) _ (c .before .full-mark .ensures) (c .if8 .taken)
@@ -61,19 +37,19 @@ check-insert-spec =
     tie.close
     (tie.spec
     returns
-    cell-word-requires
+    (λ c κs. search needs)
     returns-2
-    dimension-requires
+    (λ c κs. search needs)
     returns-3
-    mark-count-requires
-    cast-if4
+    (λ c κs. search needs)
+    (λ c. search needs)
     returns-4
-    reaches-requires
+    (λ c κs. search needs)
     returns-5
-    repeats-requires
+    (λ c κs. search needs)
     returns-6
-    same-cell-requires
+    (λ c κs. search needs)
     returns-7
-    full-mark-requires
+    (λ c κs. search needs)
     returns-8
     returns-9)

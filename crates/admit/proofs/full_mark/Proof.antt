@@ -20,23 +20,8 @@ abbrev μ-loop : tie.MeasureT-loop
 loop-holds : tie.Need-loop-holds Inv-loop μ-loop
 loop-holds c = (search needs, refl)
 
-mul-mark-word : tie.Need-mul-mark-word Inv-loop μ-loop
-mul-mark-word c = search needs
-
-shared-slice-read-mark-word : tie.Need-shared-slice-read-mark-word Inv-loop μ-loop
-shared-slice-read-mark-word c = search needs
-
-mark-word-requires : tie.Need-mark-word-requires Inv-loop μ-loop
-mark-word-requires c κs = search needs
-
 returns : tie.Need-returns Inv-loop μ-loop
 returns c = any-stop _ _ (c .before .before .before .before .loop .i) (c .before .before .before .before .loop .inv .1) (full-yes _ _ _ (c .before .mark-word .ensures) (c .if1 .taken)) (omega arith)
-
-add-i : tie.Need-add-i Inv-loop μ-loop
-add-i c = search needs
-
-loop-less : tie.Need-loop-less Inv-loop μ-loop
-loop-less c = search needs
 
 loop-again : tie.Need-loop-again Inv-loop μ-loop
 loop-again c = (omega arith, any-go _ _ (c .before .before .before .before .loop .i) (c .before .before .before .before .loop .inv .1) (full-no _ _ _ (c .before .mark-word .ensures) (c .if1 .left)) (omega arith))
@@ -51,11 +36,11 @@ full-mark-spec =
     Inv-loop
     μ-loop
     loop-holds
-    mul-mark-word
-    shared-slice-read-mark-word
-    mark-word-requires
+    (λ c. search needs)
+    (λ c. search needs)
+    (λ c κs. search needs)
     returns
-    add-i
-    loop-less
+    (λ c. search needs)
+    (λ c. search needs)
     loop-again
     returns-2)

@@ -20,23 +20,8 @@ abbrev μ-loop : tie.MeasureT-loop
 loop-holds : tie.Need-loop-holds Inv-loop μ-loop
 loop-holds c = (omega arith, none-start _ _)
 
-cast-word : tie.Need-cast-word Inv-loop μ-loop
-cast-word c = search needs
-
-word-requires : tie.Need-word-requires Inv-loop μ-loop
-word-requires c κs = search needs
-
-same-record-requires : tie.Need-same-record-requires Inv-loop μ-loop
-same-record-requires c κs = search needs
-
 returns : tie.Need-returns Inv-loop μ-loop
 returns c = sym (one-there _ _ _ (c .before .before .before .before .loop .i) (omega arith) (ap (sameIn _ _ _ _) (sym (c .before .before .word .ensures)) ∙ (sym (c .before .same-record .ensures) ∙ c .if1 .taken)))
-
-add-i : tie.Need-add-i Inv-loop μ-loop
-add-i c = search needs
-
-loop-less : tie.Need-loop-less Inv-loop μ-loop
-loop-less c = search needs
 
 loop-again : tie.Need-loop-again Inv-loop μ-loop
 loop-again c = (omega arith, none-more _ _ (c .before .before .before .before .loop .i) (c .before .before .before .before .loop .inv .1) (ap (sameIn _ _ _ _) (sym (c .before .before .word .ensures)) ∙ (sym (c .before .same-record .ensures) ∙ c .if1 .left)))
@@ -51,11 +36,11 @@ one-same-spec =
     Inv-loop
     μ-loop
     loop-holds
-    cast-word
-    word-requires
-    same-record-requires
+    (λ c. search needs)
+    (λ c κs. search needs)
+    (λ c κs. search needs)
     returns
-    add-i
-    loop-less
+    (λ c. search needs)
+    (λ c. search needs)
     loop-again
     returns-2)

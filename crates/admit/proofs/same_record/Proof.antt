@@ -6,41 +6,8 @@ use borrow.Author.Needs.{needs}
 use Rattle.admit.proofs.same_record.Statement.{statement}
 use Rattle.admit.proofs.same_record.Tie as tie
 
-cell-word-requires : tie.Need-cell-word-requires
-cell-word-requires c κs = search needs
-
 returns : tie.Need-returns
 returns c = record-other _ _ _ _ _ _ (c .before .cell-word .ensures) (c .if1 .taken)
-
-cast-at : tie.Need-cast-at
-cast-at c = search needs
-
-mul-at : tie.Need-mul-at
-mul-at c = search needs
-
-add-at : tie.Need-add-at
-add-at c = search needs
-
-mul-at-2 : tie.Need-mul-at-2
-mul-at-2 c = search needs
-
-add-at-2 : tie.Need-add-at-2
-add-at-2 c = search needs
-
-add-at-3 : tie.Need-add-at-3
-add-at-3 c = search needs
-
-mark-count-requires : tie.Need-mark-count-requires
-mark-count-requires c κs = search needs
-
-cast-part : tie.Need-cast-part
-cast-part c = search needs
-
-part-requires : tie.Need-part-requires
-part-requires c κs = search needs
-
-same-set-requires : tie.Need-same-set-requires
-same-set-requires c κs = search needs
 
 returns-2 : tie.Need-returns-2
 unfolding cellAt
@@ -50,16 +17,16 @@ pub same-record-spec : {M : Type 1} → statement M
 same-record-spec =
     tie.close
     (tie.spec
-    cell-word-requires
+    (λ c κs. search needs)
     returns
-    cast-at
-    mul-at
-    add-at
-    mul-at-2
-    add-at-2
-    add-at-3
-    mark-count-requires
-    cast-part
-    part-requires
-    same-set-requires
+    (λ c. search needs)
+    (λ c. search needs)
+    (λ c. search needs)
+    (λ c. search needs)
+    (λ c. search needs)
+    (λ c. search needs)
+    (λ c κs. search needs)
+    (λ c. search needs)
+    (λ c κs. search needs)
+    (λ c κs. search needs)
     returns-2)

@@ -6,32 +6,8 @@ use borrow.Author.Needs.{needs}
 use Rattle.ask.proofs.count_of_type.Statement.{statement}
 use Rattle.ask.proofs.count_of_type.Tie as tie
 
-open-requires : tie.Need-open-requires
-open-requires c κs = search needs
-
-enum-known-caps : tie.Need-enum-known-caps
-enum-known-caps c = search needs
-
-enum-told : tie.Need-enum-told
-enum-told c = search needs
-
 returns : tie.Need-returns
 returns c = asked-none _ _ _ _ (sym (c .enum-told .given .1) ∙ c .before .before .«open» .ensures)
-
-check-type-requires : tie.Need-check-type-requires
-check-type-requires c κs = search needs
-
-enum-known-why : tie.Need-enum-known-why
-enum-known-why c = search needs
-
-enum-told-2 : tie.Need-enum-told-2
-enum-told-2 c = search needs
-
-add-word : tie.Need-add-word
-add-word c = search needs
-
-word-requires : tie.Need-word-requires
-word-requires c κs = search needs
 
 returns-2 : tie.Need-returns-2
 returns-2 c = count-refused _ _ (sym (c .before .before .before .before .before .caps .given .1) ∙ c .before .before .before .before .before .before .before .«open» .ensures) _ _ (c .before .before .before .check-type .ensures) _ (c .before .why .given .1)
@@ -43,14 +19,14 @@ pub count-of-type-spec : {M : Type 1} → statement M
 count-of-type-spec =
     tie.close
     (tie.spec
-    open-requires
-    enum-known-caps
-    enum-told
+    (λ c κs. search needs)
+    (λ c. search needs)
+    (λ c. search needs)
     returns
-    check-type-requires
-    enum-known-why
-    enum-told-2
-    add-word
-    word-requires
+    (λ c κs. search needs)
+    (λ c. search needs)
+    (λ c. search needs)
+    (λ c. search needs)
+    (λ c κs. search needs)
     returns-2
     returns-3)

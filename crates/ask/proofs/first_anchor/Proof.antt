@@ -6,38 +6,14 @@ use borrow.Author.Needs.{needs}
 use Rattle.ask.proofs.first_anchor.Statement.{statement}
 use Rattle.ask.proofs.first_anchor.Tie as tie
 
-open-requires : tie.Need-open-requires
-open-requires c κs = search needs
-
-enum-known-caps : tie.Need-enum-known-caps
-enum-known-caps c = search needs
-
-enum-told : tie.Need-enum-told
-enum-told c = search needs
-
 returns : tie.Need-returns
 returns c = asked-none _ _ _ _ (sym (c .enum-told .given .1) ∙ c .before .before .«open» .ensures)
-
-check-star-requires : tie.Need-check-star-requires
-check-star-requires c κs = search needs
-
-enum-known-why : tie.Need-enum-known-why
-enum-known-why c = search needs
 
 returns-2 : tie.Need-returns-2
 returns-2 c = anchor-refused _ _ (sym (c .before .before .before .before .before .caps .given .1) ∙ c .before .before .before .before .before .before .before .«open» .ensures) _ _ _ (c .before .before .before .check-star .ensures) _ (c .before .why .given .1)
 
-enum-told-2 : tie.Need-enum-told-2
-enum-told-2 c = search needs
-
-anchor-word-requires : tie.Need-anchor-word-requires
-anchor-word-requires c κs = search needs
-
 returns-3 : tie.Need-returns-3
 returns-3 c = anchor-none _ _ (sym (c .before .before .before .before .before .before .caps .given .1) ∙ c .before .before .before .before .before .before .before .before .«open» .ensures) _ _ _ (c .before .before .before .before .check-star .ensures) (c .before .before .enum-told2 .given .1) _ (c .before .anchor-word .ensures) (c .if1 .taken)
-
-sub-t12 : tie.Need-sub-t12
-sub-t12 c = search needs
 
 returns-4 : tie.Need-returns-4
 returns-4 c = anchor-found _ _ (sym (c .before .before .before .before .before .before .caps .given .1) ∙ c .before .before .before .before .before .before .before .before .«open» .ensures) _ _ _ (c .before .before .before .before .check-star .ensures) (c .before .before .enum-told2 .given .1) _ (c .before .anchor-word .ensures) (c .if1 .left) _ refl
@@ -46,15 +22,15 @@ pub first-anchor-spec : {M : Type 1} → statement M
 first-anchor-spec =
     tie.close
     (tie.spec
-    open-requires
-    enum-known-caps
-    enum-told
+    (λ c κs. search needs)
+    (λ c. search needs)
+    (λ c. search needs)
     returns
-    check-star-requires
-    enum-known-why
+    (λ c κs. search needs)
+    (λ c. search needs)
     returns-2
-    enum-told-2
-    anchor-word-requires
+    (λ c. search needs)
+    (λ c κs. search needs)
     returns-3
-    sub-t12
+    (λ c. search needs)
     returns-4)

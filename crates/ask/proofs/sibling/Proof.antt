@@ -6,29 +6,8 @@ use borrow.Author.Needs.{needs}
 use Rattle.ask.proofs.sibling.Statement.{statement}
 use Rattle.ask.proofs.sibling.Tie as tie
 
-open-requires : tie.Need-open-requires
-open-requires c κs = search needs
-
-enum-known-caps : tie.Need-enum-known-caps
-enum-known-caps c = search needs
-
-enum-told : tie.Need-enum-told
-enum-told c = search needs
-
 returns : tie.Need-returns
 returns c = asked-none _ _ _ _ (sym (c .enum-told .given .1) ∙ c .before .before .«open» .ensures)
-
-check-half-requires : tie.Need-check-half-requires
-check-half-requires c κs = search needs
-
-enum-known-why : tie.Need-enum-known-why
-enum-known-why c = search needs
-
-enum-told-2 : tie.Need-enum-told-2
-enum-told-2 c = search needs
-
-sibling-word-requires : tie.Need-sibling-word-requires
-sibling-word-requires c κs = search needs
 
 returns-2 : tie.Need-returns-2
 returns-2 c = sibling-refused _ _ (sym (c .before .before .before .before .before .caps .given .1) ∙ c .before .before .before .before .before .before .before .«open» .ensures) _ _ _ (c .before .before .before .check-half .ensures) _ (c .before .why .given .1)
@@ -40,13 +19,13 @@ pub sibling-spec : {M : Type 1} → statement M
 sibling-spec =
     tie.close
     (tie.spec
-    open-requires
-    enum-known-caps
-    enum-told
+    (λ c κs. search needs)
+    (λ c. search needs)
+    (λ c. search needs)
     returns
-    check-half-requires
-    enum-known-why
-    enum-told-2
-    sibling-word-requires
+    (λ c κs. search needs)
+    (λ c. search needs)
+    (λ c. search needs)
+    (λ c κs. search needs)
     returns-2
     returns-3)

@@ -6,29 +6,8 @@ use borrow.Author.Needs.{needs}
 use Rattle.ask.proofs.type_of.Statement.{statement}
 use Rattle.ask.proofs.type_of.Tie as tie
 
-open-requires : tie.Need-open-requires
-open-requires c κs = search needs
-
-enum-known-caps : tie.Need-enum-known-caps
-enum-known-caps c = search needs
-
-enum-told : tie.Need-enum-told
-enum-told c = search needs
-
 returns : tie.Need-returns
 returns c = asked-none _ _ _ _ (sym (c .enum-told .given .1) ∙ c .before .before .«open» .ensures)
-
-check-cell-requires : tie.Need-check-cell-requires
-check-cell-requires c κs = search needs
-
-enum-known-why : tie.Need-enum-known-why
-enum-known-why c = search needs
-
-enum-told-2 : tie.Need-enum-told-2
-enum-told-2 c = search needs
-
-cell-word-requires : tie.Need-cell-word-requires
-cell-word-requires c κs = search needs
 
 returns-2 : tie.Need-returns-2
 returns-2 c = type-refused _ _ (sym (c .before .before .before .before .before .caps .given .1) ∙ c .before .before .before .before .before .before .before .«open» .ensures) _ _ (c .before .before .before .check-cell .ensures) _ (c .before .why .given .1)
@@ -40,13 +19,13 @@ pub type-of-spec : {M : Type 1} → statement M
 type-of-spec =
     tie.close
     (tie.spec
-    open-requires
-    enum-known-caps
-    enum-told
+    (λ c κs. search needs)
+    (λ c. search needs)
+    (λ c. search needs)
     returns
-    check-cell-requires
-    enum-known-why
-    enum-told-2
-    cell-word-requires
+    (λ c κs. search needs)
+    (λ c. search needs)
+    (λ c. search needs)
+    (λ c κs. search needs)
     returns-2
     returns-3)

@@ -14,46 +14,16 @@ Inv-loop w₀ marks cells records at₀ place₀ w at place = Going w₀ marks c
 abbrev μ-loop : tie.MeasureT-loop
 μ-loop w₀ marks cells records at₀ place₀ w at place = length records - at
 
-format-requires : tie.Need-format-requires Inv-loop μ-loop
-format-requires c κs = search needs
-
-enum-known-why : tie.Need-enum-known-why Inv-loop μ-loop
-enum-known-why c = search needs
-
-same-length : tie.Need-same-length Inv-loop μ-loop
-same-length c = search needs
-
 returns : tie.Need-returns Inv-loop μ-loop
 returns c = build-refused _ _ _ _ _ _ (c .before .before .before .before .before .format .ensures) _ (c .before .why .given .1) _ (omega arith)
 
-enum-told : tie.Need-enum-told Inv-loop μ-loop
-enum-told c = search needs
-
 loop-holds : tie.Need-loop-holds Inv-loop μ-loop
 loop-holds c = going-start _ _ _ _ _ _ (c .before .before .before .before .format .ensures) (c .enum-told .given .1) _ _ (omega arith) (omega arith)
-
-record-end-requires : tie.Need-record-end-requires Inv-loop μ-loop
-record-end-requires c κs = search needs
-
-one-record-requires : tie.Need-one-record-requires Inv-loop μ-loop
-one-record-requires c κs = search needs
-
-enum-known-why-2 : tie.Need-enum-known-why-2 Inv-loop μ-loop
-enum-known-why-2 c = search needs
-
-format-requires-2 : tie.Need-format-requires-2 Inv-loop μ-loop
-format-requires-2 c κs = search needs
-
-same-length-2 : tie.Need-same-length-2 Inv-loop μ-loop
-same-length-2 c = search needs
 
 returns-2 : tie.Need-returns-2 Inv-loop μ-loop
 returns-2 c =
     let s = going-refused _ _ _ _ _ _ _ (c .before .before .before .before .before .before .before .before .before .before .before .before .before .loop .inv) (omega arith) _ (c .before .before .before .before .before .before .before .before .before .before .before .record-end .ensures) _ _ (c .before .before .before .before .before .before .before .before .before .one-record .ensures) _ (c .before .before .before .before .before .why2 .given .1) in
     build-stopped _ _ _ _ _ _ (c .before .before .before .before .before .before .before .before .before .before .before .before .before .before .before .before .before .before .format .ensures) (c .before .before .before .before .before .before .before .before .before .before .before .before .before .before .enum-told .given .1) _ _ (s .0) _ _ (s .1) _ _ _ (c .before .before .format2 .ensures) (omega arith) (omega arith) _ (omega arith)
-
-enum-told-2 : tie.Need-enum-told-2 Inv-loop μ-loop
-enum-told-2 c = search needs
 
 add-place : tie.Need-add-place Inv-loop μ-loop
 add-place c = omega (arith, going-few _ _ _ _ _ _ _ (c .before .before .before .before .before .before .before .before .loop .inv))
@@ -65,9 +35,6 @@ loop-again : tie.Need-loop-again Inv-loop μ-loop
 loop-again c =
     going-next _ _ _ _ _ _ _ (c .before .before .before .before .before .before .before .before .loop .inv) (omega arith) _ (c .before .before .before .before .before .before .record-end .ensures) _ _ (c .before .before .before .before .one-record .ensures) (c .enum-told2 .given .1) _ _ (omega arith) (omega arith)
 
-same-length-3 : tie.Need-same-length-3 Inv-loop μ-loop
-same-length-3 c = search needs
-
 returns-3 : tie.Need-returns-3 Inv-loop μ-loop
 returns-3 c = build-done _ _ _ _ _ _ (c .before .before .before .before .before .before .format .ensures) (c .before .before .enum-told .given .1) _ _ _ (c .before .loop .inv) (omega arith)
 
@@ -77,21 +44,21 @@ build-spec =
     (tie.spec
     Inv-loop
     μ-loop
-    format-requires
-    enum-known-why
-    same-length
+    (λ c κs. search needs)
+    (λ c. search needs)
+    (λ c. search needs)
     returns
-    enum-told
+    (λ c. search needs)
     loop-holds
-    record-end-requires
-    one-record-requires
-    enum-known-why-2
-    format-requires-2
-    same-length-2
+    (λ c κs. search needs)
+    (λ c κs. search needs)
+    (λ c. search needs)
+    (λ c κs. search needs)
+    (λ c. search needs)
     returns-2
-    enum-told-2
+    (λ c. search needs)
     add-place
     loop-less
     loop-again
-    same-length-3
+    (λ c. search needs)
     returns-3)

@@ -10,25 +10,7 @@ Inv-loop w p d₀ d = Unit {0}
 abbrev μ-loop : tie.MeasureT-loop
 μ-loop w p d₀ d = 5 - d
 
-loop-holds : tie.Need-loop-holds Inv-loop μ-loop
-loop-holds c = search needs
-
-about-marks-requires : tie.Need-about-marks-requires Inv-loop μ-loop
-about-marks-requires c κs = search needs
-
-add-d : tie.Need-add-d Inv-loop μ-loop
-add-d c = search needs
-
-loop-less : tie.Need-loop-less Inv-loop μ-loop
-loop-less c = search needs
-
-loop-again : tie.Need-loop-again Inv-loop μ-loop
-loop-again c = search needs
-
-returns : tie.Need-returns Inv-loop μ-loop
-returns c = search needs
-
 pub about-dimensions-spec : {M : Type 1} → statement M
 about-dimensions-spec =
     tie.close
-    (tie.spec Inv-loop μ-loop loop-holds about-marks-requires add-d loop-less loop-again returns)
+    (tie.spec Inv-loop μ-loop (λ c. search needs) (λ c κs. search needs) (λ c. search needs) (λ c. search needs) (λ c. search needs) (λ c. search needs))

@@ -12,37 +12,16 @@ Inv-loop w₀ p k₀ w k = length w ≡ length w₀
 abbrev μ-loop : tie.MeasureT-loop
 μ-loop w₀ p k₀ w k = 19 - k
 
-loop-holds : tie.Need-loop-holds Inv-loop μ-loop
-loop-holds c = search needs
-
-try-edit-requires : tie.Need-try-edit-requires Inv-loop μ-loop
-try-edit-requires c κs = search needs
-
-add-k : tie.Need-add-k Inv-loop μ-loop
-add-k c = search needs
-
-loop-less : tie.Need-loop-less Inv-loop μ-loop
-loop-less c = search needs
-
-loop-again : tie.Need-loop-again Inv-loop μ-loop
-loop-again c = search needs
-
-same-length : tie.Need-same-length Inv-loop μ-loop
-same-length c = search needs
-
-returns : tie.Need-returns Inv-loop μ-loop
-returns c = search needs
-
 pub try-edits-spec : {M : Type 1} → statement M
 try-edits-spec =
     tie.close
     (tie.spec
     Inv-loop
     μ-loop
-    loop-holds
-    try-edit-requires
-    add-k
-    loop-less
-    loop-again
-    same-length
-    returns)
+    (λ c. search needs)
+    (λ c κs. search needs)
+    (λ c. search needs)
+    (λ c. search needs)
+    (λ c. search needs)
+    (λ c. search needs)
+    (λ c. search needs))

@@ -5,23 +5,14 @@ use borrow.Author.Needs.{needs}
 use Rattle.chain.proofs.corner_of.Statement.{statement}
 use Rattle.chain.proofs.corner_of.Tie as tie
 
-cell-word-requires : tie.Need-cell-word-requires
-cell-word-requires c κs = search needs
-
 returns : tie.Need-returns
 returns c = sym (corner-0 _ _ _ _ (sym (c .before .cell-word .ensures) ∙ c .if1 .taken))
-
-cell-word-requires-2 : tie.Need-cell-word-requires-2
-cell-word-requires-2 c κs = search needs
 
 returns-2 : tie.Need-returns-2
 returns-2 c =
     sym
     (corner-1 _ _ _ _ (λ e. c .before .before .if1 .left (c .before .before .before .cell-word .ensures ∙ e))
     (sym (c .before .cell-word2 .ensures) ∙ c .if2 .taken))
-
-cell-word-requires-3 : tie.Need-cell-word-requires-3
-cell-word-requires-3 c κs = search needs
 
 returns-3 : tie.Need-returns-3
 returns-3 c =
@@ -41,10 +32,10 @@ pub corner-of-spec : {M : Type 1} → statement M
 corner-of-spec =
     tie.close
     (tie.spec
-    cell-word-requires
+    (λ c κs. search needs)
     returns
-    cell-word-requires-2
+    (λ c κs. search needs)
     returns-2
-    cell-word-requires-3
+    (λ c κs. search needs)
     returns-3
     returns-4)

@@ -19,9 +19,6 @@ Inv-loop w caps v c before₀ after₀ n₀ before after n =
 abbrev μ-loop : tie.MeasureT-loop
 μ-loop w caps v c before₀ after₀ n₀ before after n = 128 - n
 
-mark-word-requires : tie.Need-mark-word-requires Inv-loop μ-loop
-mark-word-requires c κs = search needs
-
 loop-holds : tie.Need-loop-holds Inv-loop μ-loop
 unfolding link chainOf
 loop-holds c = (
@@ -40,18 +37,6 @@ returns-2 c = record {
   spot = λ s p l h k.
       search-past _ _ _ _ _ _ (c .before .before .before .loop .after - 1) (c .before .before .before .loop .inv .1 s p l h) (omega arith) (omega arith);
 }
-
-sub-link-after : tie.Need-sub-link-after Inv-loop μ-loop
-sub-link-after c = search needs
-
-link-after-requires : tie.Need-link-after-requires Inv-loop μ-loop
-link-after-requires c κs = search needs
-
-add-n : tie.Need-add-n Inv-loop μ-loop
-add-n c = search needs
-
-loop-less : tie.Need-loop-less Inv-loop μ-loop
-loop-less c = search needs
 
 loop-again : tie.Need-loop-again Inv-loop μ-loop
 unfolding link chainOf
@@ -74,13 +59,13 @@ find-spec =
     (tie.spec
     Inv-loop
     μ-loop
-    mark-word-requires
+    (λ c κs. search needs)
     loop-holds
     returns
     returns-2
-    sub-link-after
-    link-after-requires
-    add-n
-    loop-less
+    (λ c. search needs)
+    (λ c κs. search needs)
+    (λ c. search needs)
+    (λ c. search needs)
     loop-again
     returns-3)

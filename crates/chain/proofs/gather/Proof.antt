@@ -22,9 +22,6 @@ Inv-loop w caps v out₀ n₀ link₀ out n link =
 abbrev μ-loop : tie.MeasureT-loop
 μ-loop w caps v out₀ n₀ link₀ out n link = 128 - n
 
-mark-word-requires : tie.Need-mark-word-requires Inv-loop μ-loop
-mark-word-requires c κs = search needs
-
 loop-holds : tie.Need-loop-holds Inv-loop μ-loop
 unfolding link chainOf
 loop-holds c = (
@@ -32,9 +29,6 @@ loop-holds c = (
   refl,
   λ s p l h. walk-start _ _ _ _ (c .mark-word .ensures ∙ head-word _ _ s p _ h),
 )
-
-same-length : tie.Need-same-length Inv-loop μ-loop
-same-length c = search needs
 
 returns : tie.Need-returns Inv-loop μ-loop
 unfolding chainOf
@@ -46,24 +40,6 @@ returns c = record {
       (x .count, x .wrote);
 }
 
-sub-cell : tie.Need-sub-cell Inv-loop μ-loop
-sub-cell c = search needs
-
-cast-put : tie.Need-cast-put Inv-loop μ-loop
-cast-put c = search needs
-
-put-requires : tie.Need-put-requires Inv-loop μ-loop
-put-requires c κs = search needs
-
-link-after-requires : tie.Need-link-after-requires Inv-loop μ-loop
-link-after-requires c κs = search needs
-
-add-n : tie.Need-add-n Inv-loop μ-loop
-add-n c = search needs
-
-loop-less : tie.Need-loop-less Inv-loop μ-loop
-loop-less c = search needs
-
 loop-again : tie.Need-loop-again Inv-loop μ-loop
 unfolding link chainOf
 loop-again c =
@@ -74,9 +50,6 @@ loop-again c =
           rw (c .before .before .before .put .ensures)
           (walk-step _ _ _ _ _ _ _ _ (loop .inv .2 s p l h) (omega arith) (λ k t. c .link-after .ensures ∙ link-word _ _ s p l _ _ k t)),
     )
-
-same-length-2 : tie.Need-same-length-2 Inv-loop μ-loop
-same-length-2 c = search needs
 
 returns-2 : tie.Need-returns-2 Inv-loop μ-loop
 unfolding chainOf
@@ -94,16 +67,16 @@ gather-spec =
     (tie.spec
     Inv-loop
     μ-loop
-    mark-word-requires
+    (λ c κs. search needs)
     loop-holds
-    same-length
+    (λ c. search needs)
     returns
-    sub-cell
-    cast-put
-    put-requires
-    link-after-requires
-    add-n
-    loop-less
+    (λ c. search needs)
+    (λ c. search needs)
+    (λ c κs. search needs)
+    (λ c κs. search needs)
+    (λ c. search needs)
+    (λ c. search needs)
     loop-again
-    same-length-2
+    (λ c. search needs)
     returns-2)

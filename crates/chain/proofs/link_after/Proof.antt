@@ -5,17 +5,11 @@ use borrow.Author.Needs.{needs}
 use Rattle.chain.proofs.link_after.Statement.{statement}
 use Rattle.chain.proofs.link_after.Tie as tie
 
-corner-of-requires : tie.Need-corner-of-requires
-corner-of-requires c κs = search needs
-
 add-cell-word : tie.Need-add-cell-word
 add-cell-word c = omega (arith, corner-small _ _ _ _ _ (c .corner-of .ensures))
-
-cell-word-requires : tie.Need-cell-word-requires
-cell-word-requires c κs = search needs
 
 returns : tie.Need-returns
 returns c = link-read _ _ _ _ _ _ (c .before .corner-of .ensures) (c .cell-word .ensures)
 
 pub link-after-spec : {M : Type 1} → statement M
-link-after-spec = tie.close (tie.spec corner-of-requires add-cell-word cell-word-requires returns)
+link-after-spec = tie.close (tie.spec (λ c κs. search needs) add-cell-word (λ c κs. search needs) returns)

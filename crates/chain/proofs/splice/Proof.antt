@@ -6,53 +6,14 @@ use borrow.Author.Needs.{needs}
 use Rattle.chain.proofs.splice.Statement.{statement}
 use Rattle.chain.proofs.splice.Tie as tie
 
-mark-word-requires : tie.Need-mark-word-requires
-mark-word-requires c κs = search needs
-
-same-length : tie.Need-same-length
-same-length c = search needs
-
 returns : tie.Need-returns
 returns c =
     step-never _ _ _ _
     (λ s p m. omega (arith, c .if1 .taken, c .before .mark-word .ensures, count-word _ _ s p _ (m .mark), m .few))
 
-same-length-2 : tie.Need-same-length-2
-same-length-2 c = search needs
-
 returns-2 : tie.Need-returns-2
 returns-2 c =
     step-never _ _ _ _ (λ s p m. omega (arith, c .if2 .taken, m .place, m .linked .corners (c .before .before .before .before .before .args .c)))
-
-same-length-3 : tie.Need-same-length-3
-same-length-3 c = search needs
-
-returns-3 : tie.Need-returns-3
-returns-3 c = search needs
-
-find-requires : tie.Need-find-requires
-find-requires c κs = search needs
-
-add-put-link : tie.Need-add-put-link
-add-put-link c = search needs
-
-put-link-requires : tie.Need-put-link-requires
-put-link-requires c κs = search needs
-
-add-put-cell : tie.Need-add-put-cell
-add-put-cell c = search needs
-
-put-cell-requires : tie.Need-put-cell-requires
-put-cell-requires c κs = search needs
-
-add-put-mark : tie.Need-add-put-mark
-add-put-mark c = search needs
-
-put-mark-requires : tie.Need-put-mark-requires
-put-mark-requires c κs = search needs
-
-same-length-4 : tie.Need-same-length-4
-same-length-4 c = search needs
 
 returns-4 : tie.Need-returns-4
 returns-4 c =
@@ -67,19 +28,19 @@ pub splice-spec : {M : Type 1} → statement M
 splice-spec =
     tie.close
     (tie.spec
-    mark-word-requires
-    same-length
+    (λ c κs. search needs)
+    (λ c. search needs)
     returns
-    same-length-2
+    (λ c. search needs)
     returns-2
-    same-length-3
-    returns-3
-    find-requires
-    add-put-link
-    put-link-requires
-    add-put-cell
-    put-cell-requires
-    add-put-mark
-    put-mark-requires
-    same-length-4
+    (λ c. search needs)
+    (λ c. search needs)
+    (λ c κs. search needs)
+    (λ c. search needs)
+    (λ c κs. search needs)
+    (λ c. search needs)
+    (λ c κs. search needs)
+    (λ c. search needs)
+    (λ c κs. search needs)
+    (λ c. search needs)
     returns-4)

@@ -7,12 +7,6 @@ use borrow.Author.Needs.{needs}
 use Rattle.chain.proofs.unsplice.Statement.{statement}
 use Rattle.chain.proofs.unsplice.Tie as tie
 
-mark-word-requires : tie.Need-mark-word-requires
-mark-word-requires c κs = search needs
-
-same-length : tie.Need-same-length
-same-length c = search needs
-
 returns : tie.Need-returns
 returns c =
     let a = c .before .before .before .before .args in
@@ -26,36 +20,9 @@ returns c =
       chain-less (a .caps) s (a .v) (a .c) (m .cell) (m .there),
     ))
 
-same-length-2 : tie.Need-same-length-2
-same-length-2 c = search needs
-
 returns-2 : tie.Need-returns-2
 returns-2 c =
     step-never _ _ _ _ (λ s p m. omega (arith, c .if2 .taken, m .place, m .linked .corners (c .before .before .before .before .before .args .c)))
-
-find-requires : tie.Need-find-requires
-find-requires c κs = search needs
-
-link-after-requires : tie.Need-link-after-requires
-link-after-requires c κs = search needs
-
-put-link-requires : tie.Need-put-link-requires
-put-link-requires c κs = search needs
-
-add-put-cell : tie.Need-add-put-cell
-add-put-cell c = search needs
-
-put-cell-requires : tie.Need-put-cell-requires
-put-cell-requires c κs = search needs
-
-sub-put-mark : tie.Need-sub-put-mark
-sub-put-mark c = search needs
-
-put-mark-requires : tie.Need-put-mark-requires
-put-mark-requires c κs = search needs
-
-same-length-3 : tie.Need-same-length-3
-same-length-3 c = search needs
 
 returns-3 : tie.Need-returns-3
 returns-3 c =
@@ -72,17 +39,17 @@ pub unsplice-spec : {M : Type 1} → statement M
 unsplice-spec =
     tie.close
     (tie.spec
-    mark-word-requires
-    same-length
+    (λ c κs. search needs)
+    (λ c. search needs)
     returns
-    same-length-2
+    (λ c. search needs)
     returns-2
-    find-requires
-    link-after-requires
-    put-link-requires
-    add-put-cell
-    put-cell-requires
-    sub-put-mark
-    put-mark-requires
-    same-length-3
+    (λ c κs. search needs)
+    (λ c κs. search needs)
+    (λ c κs. search needs)
+    (λ c. search needs)
+    (λ c κs. search needs)
+    (λ c. search needs)
+    (λ c κs. search needs)
+    (λ c. search needs)
     returns-3)

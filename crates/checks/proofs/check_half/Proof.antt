@@ -8,14 +8,8 @@ use Rattle.checks.proofs.check_half.Tie as tie
 returns : tie.Need-returns
 returns c = half-outside _ _ _ _ (c .if1 .taken)
 
-cell-word-requires : tie.Need-cell-word-requires
-cell-word-requires c κs = search needs
-
 returns-2 : tie.Need-returns-2
 returns-2 c = half-dead _ _ _ (c .before .before .if1 .left) _ (c .before .cell-word .ensures) _ _ refl (c .if2 .taken)
-
-facet-count-requires : tie.Need-facet-count-requires
-facet-count-requires c κs = search needs
 
 returns-3 : tie.Need-returns-3
 returns-3 c = half-facet _ _ _ (c .before .before .before .before .if1 .left) _ (c .before .before .before .cell-word .ensures) _ _ (c .before .facet-count .ensures) (c .before .before .if2 .left) (c .if3 .taken)
@@ -26,4 +20,4 @@ returns-4 c = half-live _ _ _ (c .before .before .before .before .if1 .left) _ (
 pub check-half-spec : {M : Type 1} → statement M
 check-half-spec =
     tie.close
-    (tie.spec returns cell-word-requires returns-2 facet-count-requires returns-3 returns-4)
+    (tie.spec returns (λ c κs. search needs) returns-2 (λ c κs. search needs) returns-3 returns-4)

@@ -12,14 +12,8 @@ returns c = set-none _ _ _ (c .if1 .taken)
 returns-2 : tie.Need-returns-2
 returns-2 c = set-many _ _ _ (c .before .if1 .left) (c .if2 .taken)
 
-reaches-requires : tie.Need-reaches-requires
-reaches-requires c κs = search needs
-
 returns-3 : tie.Need-returns-3
 returns-3 c = set-outside _ _ _ (c .before .before .before .if1 .left) (c .before .before .if2 .left) (sym (c .before .reaches .ensures) ∙ c .if3 .taken)
-
-repeats-requires : tie.Need-repeats-requires
-repeats-requires c κs = search needs
 
 returns-4 : tie.Need-returns-4
 returns-4 c = set-twice _ _ _ (c .before .before .before .before .before .if1 .left) (c .before .before .before .before .if2 .left) (sym (c .before .before .before .reaches .ensures) ∙ c .before .before .if3 .left) (sym (c .before .repeats .ensures) ∙ c .if4 .taken)
@@ -30,4 +24,4 @@ returns-5 c = set-good _ _ _ (c .before .before .before .before .before .if1 .le
 pub check-set-spec : {M : Type 1} → statement M
 check-set-spec =
     tie.close
-    (tie.spec returns returns-2 reaches-requires returns-3 repeats-requires returns-4 returns-5)
+    (tie.spec returns returns-2 (λ c κs. search needs) returns-3 (λ c κs. search needs) returns-4 returns-5)

@@ -4,9 +4,6 @@ use borrow.Author.Needs.{needs}
 use Rattle.checks.proofs.check_type.Statement.{statement}
 use Rattle.checks.proofs.check_type.Tie as tie
 
-dimension-requires : tie.Need-dimension-requires
-dimension-requires c κs = search needs
-
 returns : tie.Need-returns
 returns c = type-none _ _ _ _ (c .before .dimension .ensures) (c .if1 .taken)
 
@@ -14,4 +11,4 @@ returns-2 : tie.Need-returns-2
 returns-2 c = type-good _ _ _ _ (c .before .dimension .ensures) (c .if1 .left)
 
 pub check-type-spec : {M : Type 1} → statement M
-check-type-spec = tie.close (tie.spec dimension-requires returns returns-2)
+check-type-spec = tie.close (tie.spec (λ c κs. search needs) returns returns-2)

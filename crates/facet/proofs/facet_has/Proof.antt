@@ -6,24 +6,6 @@ use borrow.Author.Needs.{needs}
 use Rattle.facet.proofs.facet_has.Statement.{statement}
 use Rattle.facet.proofs.facet_has.Tie as tie
 
-slice-aggregate-copy-facet : tie.Need-slice-aggregate-copy-facet
-slice-aggregate-copy-facet c = search needs
-
-copy-facet-requires : tie.Need-copy-facet-requires
-copy-facet-requires c κs = search needs
-
-slice-aggregate-part : tie.Need-slice-aggregate-part
-slice-aggregate-part c = search needs
-
-cast-part : tie.Need-cast-part
-cast-part c = search needs
-
-part-requires : tie.Need-part-requires
-part-requires c κs = search needs
-
-has-requires : tie.Need-has-requires
-has-requires c κs = search needs
-
 returns : tie.Need-returns
 returns c = c .has .ensures ∙ ap (has _) (c .before .part .ensures .words ∙ facet-part _ _ _ _ _ _ _ _ (c .before .before .before .before .copy-facet .ensures) refl)
 
@@ -31,10 +13,10 @@ pub facet-has-spec : {M : Type 1} → statement M
 facet-has-spec =
     tie.close
     (tie.spec
-    slice-aggregate-copy-facet
-    copy-facet-requires
-    slice-aggregate-part
-    cast-part
-    part-requires
-    has-requires
+    (λ c. search needs)
+    (λ c κs. search needs)
+    (λ c. search needs)
+    (λ c. search needs)
+    (λ c κs. search needs)
+    (λ c κs. search needs)
     returns)

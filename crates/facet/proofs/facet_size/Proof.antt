@@ -8,12 +8,6 @@ use borrow.Author.Needs.{needs}
 use Rattle.facet.proofs.facet_size.Statement.{statement}
 use Rattle.facet.proofs.facet_size.Tie as tie
 
-cell-word-requires : tie.Need-cell-word-requires
-cell-word-requires c κs = search needs
-
-column-requires : tie.Need-column-requires
-column-requires c κs = search needs
-
 returns : tie.Need-returns
 returns c = size-four _ _ _ _ _ _ _ (c .before .before .cell-word .ensures) (c .before .column .ensures) (c .if1 .taken)
 
@@ -21,4 +15,4 @@ returns-2 : tie.Need-returns-2
 returns-2 c = size-few _ _ _ _ _ _ _ (c .before .before .cell-word .ensures) (c .before .column .ensures) (c .if1 .left)
 
 pub facet-size-spec : {M : Type 1} → statement M
-facet-size-spec = tie.close (tie.spec cell-word-requires column-requires returns returns-2)
+facet-size-spec = tie.close (tie.spec (λ c κs. search needs) (λ c κs. search needs) returns returns-2)

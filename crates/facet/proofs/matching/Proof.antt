@@ -18,26 +18,11 @@ Inv-loop w caps rows c set n f₀ f = (f ≤ n) × ((k : ℕ) → k < f → same
 abbrev μ-loop : tie.MeasureT-loop
 μ-loop w caps rows c set n f₀ f = n - f
 
-cell-word-requires : tie.Need-cell-word-requires Inv-loop μ-loop
-cell-word-requires c κs = search needs
-
-facet-count-requires : tie.Need-facet-count-requires Inv-loop μ-loop
-facet-count-requires c κs = search needs
-
 loop-holds : tie.Need-loop-holds Inv-loop μ-loop
 loop-holds c = (omega arith, λ k h. absurd (not-suc-le-zero h))
 
-same-facet-requires : tie.Need-same-facet-requires Inv-loop μ-loop
-same-facet-requires c κs = search needs
-
 returns : tie.Need-returns Inv-loop μ-loop
 returns c = match-found _ _ _ _ _ _ _ (c .before .before .before .before .before .cell-word .ensures) (c .before .before .before .before .facet-count .ensures) (c .before .before .before .loop .f) (c .before .before .before .loop .inv .1) (sym (c .before .same-facet .ensures) ∙ c .if1 .taken) (omega arith)
-
-add-f : tie.Need-add-f Inv-loop μ-loop
-add-f c = search needs
-
-loop-less : tie.Need-loop-less Inv-loop μ-loop
-loop-less c = search needs
 
 loop-again : tie.Need-loop-again Inv-loop μ-loop
 loop-again c = (omega arith, below-more _ _ (c .before .before .before .loop .inv .1) (sym (c .before .same-facet .ensures) ∙ c .if1 .left))
@@ -51,12 +36,12 @@ matching-spec =
     (tie.spec
     Inv-loop
     μ-loop
-    cell-word-requires
-    facet-count-requires
+    (λ c κs. search needs)
+    (λ c κs. search needs)
     loop-holds
-    same-facet-requires
+    (λ c κs. search needs)
     returns
-    add-f
-    loop-less
+    (λ c. search needs)
+    (λ c. search needs)
     loop-again
     returns-2)

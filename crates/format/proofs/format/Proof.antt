@@ -12,36 +12,9 @@ returns c = format-marks _ _ _ (omega arith)
 returns-2 : tie.Need-returns-2
 returns-2 c = format-cells _ _ _ (omega arith) (omega arith)
 
-mul-room : tie.Need-mul-room
-mul-room c = search needs
-
-add-room : tie.Need-add-room
-add-room c = search needs
-
-mul-room-2 : tie.Need-mul-room-2
-mul-room-2 c = search needs
-
-add-room-2 : tie.Need-add-room-2
-add-room-2 c = search needs
-
 returns-3 : tie.Need-returns-3
 unfolding room
 returns-3 c = format-short _ _ _ (omega arith) (omega arith) (omega arith)
-
-clear-requires : tie.Need-clear-requires
-clear-requires c κs = search needs
-
-put-requires : tie.Need-put-requires
-put-requires c κs = search needs
-
-put-requires-2 : tie.Need-put-requires-2
-put-requires-2 c κs = search needs
-
-put-requires-3 : tie.Need-put-requires-3
-put-requires-3 c κs = search needs
-
-same-length : tie.Need-same-length
-same-length c = search needs
 
 returns-4 : tie.Need-returns-4
 unfolding room magic
@@ -58,14 +31,14 @@ format-spec =
     (tie.spec
     returns
     returns-2
-    mul-room
-    add-room
-    mul-room-2
-    add-room-2
+    (λ c. search needs)
+    (λ c. search needs)
+    (λ c. search needs)
+    (λ c. search needs)
     returns-3
-    clear-requires
-    put-requires
-    put-requires-2
-    put-requires-3
-    same-length
+    (λ c κs. search needs)
+    (λ c κs. search needs)
+    (λ c κs. search needs)
+    (λ c κs. search needs)
+    (λ c. search needs)
     returns-4)

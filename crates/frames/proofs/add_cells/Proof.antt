@@ -20,23 +20,8 @@ abbrev μ-loop : tie.MeasureT-loop
 loop-holds : tie.Need-loop-holds Inv-loop μ-loop
 loop-holds c = (search needs, each-none twoBytes (c .before .before .args .cells .now) _ _)
 
-mul-add-number : tie.Need-mul-add-number Inv-loop μ-loop
-mul-add-number c = search needs
-
-shared-slice-read-add-number : tie.Need-shared-slice-read-add-number Inv-loop μ-loop
-shared-slice-read-add-number c = search needs
-
 cast-add-number : tie.Need-cast-add-number Inv-loop μ-loop
 cast-add-number c = omega (arith, c .shared-slice-known2 .given (c .before .before .before .loop .i))
-
-add-number-requires : tie.Need-add-number-requires Inv-loop μ-loop
-add-number-requires c κs = search needs
-
-add-i : tie.Need-add-i Inv-loop μ-loop
-add-i c = search needs
-
-loop-less : tie.Need-loop-less Inv-loop μ-loop
-loop-less c = search needs
 
 loop-again : tie.Need-loop-again Inv-loop μ-loop
 loop-again c = (omega arith, each-more twoBytes _ (c .before .before .before .before .before .before .loop .i) _ (omega arith) refl (c .before .before .before .before .before .before .loop .inv .1) (c .before .before .add-number .ensures))
@@ -54,12 +39,12 @@ add-cells-spec =
     Inv-loop
     μ-loop
     loop-holds
-    mul-add-number
-    shared-slice-read-add-number
+    (λ c. search needs)
+    (λ c. search needs)
     cast-add-number
-    add-number-requires
-    add-i
-    loop-less
+    (λ c κs. search needs)
+    (λ c. search needs)
+    (λ c. search needs)
     loop-again
     same-length
     returns)

@@ -20,21 +20,6 @@ abbrev μ-loop : tie.MeasureT-loop
 loop-holds : tie.Need-loop-holds Inv-loop μ-loop
 loop-holds c = (search needs, each-none cellAndFacet (c .before .before .args .halves .now) _ _)
 
-mul-add-half : tie.Need-mul-add-half Inv-loop μ-loop
-mul-add-half c = search needs
-
-shared-slice-read-add-half : tie.Need-shared-slice-read-add-half Inv-loop μ-loop
-shared-slice-read-add-half c = search needs
-
-add-half-requires : tie.Need-add-half-requires Inv-loop μ-loop
-add-half-requires c κs = search needs
-
-add-i : tie.Need-add-i Inv-loop μ-loop
-add-i c = search needs
-
-loop-less : tie.Need-loop-less Inv-loop μ-loop
-loop-less c = search needs
-
 loop-again : tie.Need-loop-again Inv-loop μ-loop
 loop-again c = (omega arith, each-more cellAndFacet _ (c .before .before .before .before .before .before .loop .i) _ (omega arith) refl (c .before .before .before .before .before .before .loop .inv .1) (c .before .before .add-half .ensures))
 
@@ -51,11 +36,11 @@ add-halves-spec =
     Inv-loop
     μ-loop
     loop-holds
-    mul-add-half
-    shared-slice-read-add-half
-    add-half-requires
-    add-i
-    loop-less
+    (λ c. search needs)
+    (λ c. search needs)
+    (λ c κs. search needs)
+    (λ c. search needs)
+    (λ c. search needs)
     loop-again
     same-length
     returns)

@@ -28,20 +28,8 @@ returns-2 c = bad-odd _ (c .before .if1 .left) (c .if2 .taken)
 loop-holds : tie.Need-loop-holds Inv-loop μ-loop
 loop-holds c = (search needs, refl)
 
-shared-slice-read-digit : tie.Need-shared-slice-read-digit Inv-loop μ-loop
-shared-slice-read-digit c = search needs
-
-digit-requires : tie.Need-digit-requires Inv-loop μ-loop
-digit-requires c κs = search needs
-
 returns-3 : tie.Need-returns-3 Inv-loop μ-loop
 returns-3 c = any-stop _ _ (c .before .before .before .before .loop .i) (c .before .before .before .before .loop .inv .1) (le-leb 16 _ (rw (c .before .digit .ensures) at (c .if3 .taken))) (omega arith) ∙ bad-rest _ (c .before .before .before .before .before .before .if1 .left) (c .before .before .before .before .before .if2 .left)
-
-add-i : tie.Need-add-i Inv-loop μ-loop
-add-i c = search needs
-
-loop-less : tie.Need-loop-less Inv-loop μ-loop
-loop-less c = search needs
 
 loop-again : tie.Need-loop-again Inv-loop μ-loop
 loop-again c = (omega arith, any-go _ _ (c .before .before .before .before .loop .i) (c .before .before .before .before .loop .inv .1) (lt-leb 16 _ (rw (c .before .digit .ensures) at (c .if3 .left))) (omega arith))
@@ -58,10 +46,10 @@ bad-line-spec =
     returns
     returns-2
     loop-holds
-    shared-slice-read-digit
-    digit-requires
+    (λ c. search needs)
+    (λ c κs. search needs)
     returns-3
-    add-i
-    loop-less
+    (λ c. search needs)
+    (λ c. search needs)
     loop-again
     returns-4)

@@ -12,26 +12,8 @@ use Rattle.frames.proofs.byte_at.Tie as tie
 returns : tie.Need-returns
 returns c = byte-past _ _ (c .if1 .taken)
 
-mul-at : tie.Need-mul-at
-mul-at c = search needs
-
-shared-slice-read-digit : tie.Need-shared-slice-read-digit
-shared-slice-read-digit c = search needs
-
-digit-requires : tie.Need-digit-requires
-digit-requires c κs = search needs
-
 mul-result : tie.Need-mul-result
 mul-result c = omega (arith, c .digit .ensures, digit-most (getD (now (c .before .before .before .before .args .line)) (2 * c .before .before .before .before .args .k) 0))
-
-add-digit : tie.Need-add-digit
-add-digit c = search needs
-
-shared-slice-read-digit-2 : tie.Need-shared-slice-read-digit-2
-shared-slice-read-digit-2 c = search needs
-
-digit-requires-2 : tie.Need-digit-requires-2
-digit-requires-2 c κs = search needs
 
 add-result : tie.Need-add-result
 add-result c = omega (arith, c .before .before .digit .ensures, digit-most (getD (now (c .before .before .before .before .before .before .args .line)) (2 * c .before .before .before .before .before .before .args .k) 0), c .digit2 .ensures, digit-most (getD (now (c .before .before .before .before .before .before .args .line)) (2 * c .before .before .before .before .before .before .args .k + 1) 0))
@@ -44,12 +26,12 @@ byte-at-spec =
     tie.close
     (tie.spec
     returns
-    mul-at
-    shared-slice-read-digit
-    digit-requires
+    (λ c. search needs)
+    (λ c. search needs)
+    (λ c κs. search needs)
     mul-result
-    add-digit
-    shared-slice-read-digit-2
-    digit-requires-2
+    (λ c. search needs)
+    (λ c. search needs)
+    (λ c κs. search needs)
     add-result
     returns-2)

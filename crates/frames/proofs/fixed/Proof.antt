@@ -4,36 +4,6 @@ use borrow.Author.Needs.{needs}
 use Rattle.frames.proofs.fixed.Statement.{statement}
 use Rattle.frames.proofs.fixed.Tie as tie
 
-byte-at-requires : tie.Need-byte-at-requires
-byte-at-requires c κs = search needs
-
-number-at-requires : tie.Need-number-at-requires
-number-at-requires c κs = search needs
-
-number-at-requires-2 : tie.Need-number-at-requires-2
-number-at-requires-2 c κs = search needs
-
-number-at-requires-3 : tie.Need-number-at-requires-3
-number-at-requires-3 c κs = search needs
-
-byte-at-requires-2 : tie.Need-byte-at-requires-2
-byte-at-requires-2 c κs = search needs
-
-number-at-requires-4 : tie.Need-number-at-requires-4
-number-at-requires-4 c κs = search needs
-
-byte-at-requires-3 : tie.Need-byte-at-requires-3
-byte-at-requires-3 c κs = search needs
-
-number-at-requires-5 : tie.Need-number-at-requires-5
-number-at-requires-5 c κs = search needs
-
-number-at-requires-6 : tie.Need-number-at-requires-6
-number-at-requires-6 c κs = search needs
-
-byte-at-requires-4 : tie.Need-byte-at-requires-4
-byte-at-requires-4 c κs = search needs
-
 returns : tie.Need-returns
 returns c = λ other. format-yes _ _ (c .before .before .before .before .byte-at .ensures) _ _ (c .before .before .before .match .keys1) (c .before .before .if1 .taken) (c .before .number-at .ensures) (c .number-at2 .ensures)
 
@@ -71,16 +41,16 @@ pub fixed-spec : {M : Type 1} → statement M
 fixed-spec =
     tie.close
     (tie.spec
-    byte-at-requires
-    number-at-requires
-    number-at-requires-2
-    number-at-requires-3
-    byte-at-requires-2
-    number-at-requires-4
-    byte-at-requires-3
-    number-at-requires-5
-    number-at-requires-6
-    byte-at-requires-4
+    (λ c κs. search needs)
+    (λ c κs. search needs)
+    (λ c κs. search needs)
+    (λ c κs. search needs)
+    (λ c κs. search needs)
+    (λ c κs. search needs)
+    (λ c κs. search needs)
+    (λ c κs. search needs)
+    (λ c κs. search needs)
+    (λ c κs. search needs)
     returns
     returns-2
     returns-3

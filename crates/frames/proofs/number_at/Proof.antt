@@ -10,17 +10,8 @@ use Rattle.frames.proofs.number_at.Tie as tie
 returns : tie.Need-returns
 returns c = number-past _ _ (c .if1 .taken)
 
-byte-at-requires : tie.Need-byte-at-requires
-byte-at-requires c κs = search needs
-
 mul-result : tie.Need-mul-result
 mul-result c = omega (arith, c .byte-at .ensures, byte-small (now (c .before .before .before .args .line)) (c .before .before .before .args .k))
-
-add-byte-at : tie.Need-add-byte-at
-add-byte-at c = search needs
-
-byte-at-requires-2 : tie.Need-byte-at-requires-2
-byte-at-requires-2 c κs = search needs
 
 add-result : tie.Need-add-result
 add-result c = omega (arith, c .before .byte-at .ensures, byte-small (now (c .before .before .before .before .args .line)) (c .before .before .before .before .args .k), c .byte-at2 .ensures, byte-small (now (c .before .before .before .before .args .line)) (c .before .before .before .before .args .k + 1))
@@ -33,9 +24,9 @@ number-at-spec =
     tie.close
     (tie.spec
     returns
-    byte-at-requires
+    (λ c κs. search needs)
     mul-result
-    add-byte-at
-    byte-at-requires-2
+    (λ c. search needs)
+    (λ c κs. search needs)
     add-result
     returns-2)

@@ -5,17 +5,8 @@ use borrow.Author.Needs.{needs}
 use Rattle.frames.proofs.read.Statement.{statement}
 use Rattle.frames.proofs.read.Tie as tie
 
-bad-line-requires : tie.Need-bad-line-requires
-bad-line-requires c κs = search needs
-
 returns : tie.Need-returns
 returns c = read-bad _ _ (sym (c .before .bad-line .ensures) ∙ c .if1 .taken)
-
-byte-at-requires : tie.Need-byte-at-requires
-byte-at-requires c κs = search needs
-
-fixed-requires : tie.Need-fixed-requires
-fixed-requires c κs = search needs
 
 returns-2 : tie.Need-returns-2
 returns-2 c = read-fixed _ _ _ _ (c .before .before .byte-at .ensures) (sym (c .before .before .before .before .bad-line .ensures) ∙ c .before .before .before .if1 .left) (c .before .if2 .taken) (c .fixed .ensures)
@@ -26,18 +17,6 @@ returns-3 c = read-none _ _ (sym (c .before .before .before .before .bad-line .e
 returns-4 : tie.Need-returns-4
 returns-4 c = read-none _ _ (sym (c .before .before .before .before .before .bad-line .ensures) ∙ c .before .before .before .before .if1 .left) (insert-half _ _ (c .before .before .before .byte-at .ensures) (c .before .before .if2 .left) (c .before .if3 .left) (c .if4 .taken))
 
-read-marks-requires : tie.Need-read-marks-requires
-read-marks-requires c κs = search needs
-
-number-at-requires : tie.Need-number-at-requires
-number-at-requires c κs = search needs
-
-byte-at-requires-2 : tie.Need-byte-at-requires-2
-byte-at-requires-2 c κs = search needs
-
-same-length : tie.Need-same-length
-same-length c = search needs
-
 returns-5 : tie.Need-returns-5
 returns-5 c = read-insert _ _ _ _ _ _ (sym (c .before .before .before .before .before .before .before .before .before .before .before .bad-line .ensures) ∙ c .before .before .before .before .before .before .before .before .before .before .if1 .left) (insert-whole _ _ (c .before .before .before .before .before .before .before .before .before .byte-at .ensures) (c .before .before .before .before .before .before .before .before .if2 .left) (c .before .before .before .before .before .before .before .if3 .left) (c .before .before .before .before .before .before .if4 .left)) (c .before .number-at .ensures) (c .byte-at2 .ensures) (c .before .before .before .before .read-marks .ensures)
 
@@ -45,15 +24,15 @@ pub read-spec : {M : Type 1} → statement M
 read-spec =
     tie.close
     (tie.spec
-    bad-line-requires
+    (λ c κs. search needs)
     returns
-    byte-at-requires
-    fixed-requires
+    (λ c κs. search needs)
+    (λ c κs. search needs)
     returns-2
     returns-3
     returns-4
-    read-marks-requires
-    number-at-requires
-    byte-at-requires-2
-    same-length
+    (λ c κs. search needs)
+    (λ c κs. search needs)
+    (λ c κs. search needs)
+    (λ c. search needs)
     returns-5)

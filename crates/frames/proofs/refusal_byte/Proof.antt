@@ -4,18 +4,6 @@ use borrow.Author.Needs.{needs}
 use Rattle.frames.proofs.refusal_byte.Statement.{statement}
 use Rattle.frames.proofs.refusal_byte.Tie as tie
 
-enum-told : tie.Need-enum-told
-enum-told c = search needs
-
-enum-known-v : tie.Need-enum-known-v
-enum-known-v c = search needs
-
-number-of-requires : tie.Need-number-of-requires
-number-of-requires c κs = search needs
-
-cast-result : tie.Need-cast-result
-cast-result c = search needs
-
 returns : tie.Need-returns
 returns c = accepted-byte _ (c .enum-told .given .1)
 
@@ -24,4 +12,4 @@ returns-2 c = refused-byte _ _ _ (c .before .before .v .given .1) (c .number-of 
 
 pub refusal-byte-spec : {M : Type 1} → statement M
 refusal-byte-spec =
-    tie.close (tie.spec enum-told enum-known-v number-of-requires cast-result returns returns-2)
+    tie.close (tie.spec (λ c. search needs) (λ c. search needs) (λ c κs. search needs) (λ c. search needs) returns returns-2)

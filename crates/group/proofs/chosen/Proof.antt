@@ -4,29 +4,11 @@ use borrow.Author.Needs.{needs}
 use Rattle.group.proofs.chosen.Statement.{statement}
 use Rattle.group.proofs.chosen.Tie as tie
 
-cast-j : tie.Need-cast-j
-cast-j c = search needs
-
-word-requires : tie.Need-word-requires
-word-requires c κs = search needs
-
-word-requires-2 : tie.Need-word-requires-2
-word-requires-2 c κs = search needs
-
 returns : tie.Need-returns
 returns c = chosen-apart _ _ _ _ _ _ _ _ _ _ _ (c .before .before .word .ensures) (c .before .word2 .ensures) (c .if1 .taken)
 
-word-requires-3 : tie.Need-word-requires-3
-word-requires-3 c κs = search needs
-
-wanted-requires : tie.Need-wanted-requires
-wanted-requires c κs = search needs
-
 returns-2 : tie.Need-returns-2
 returns-2 c = chosen-off _ _ _ _ _ _ _ _ _ _ _ (c .before .before .before .before .before .word .ensures) (c .before .before .before .before .word2 .ensures) (c .before .before .before .if1 .left) _ (c .before .before .word3 .ensures) _ (c .before .wanted .ensures) (c .if2 .taken)
-
-facet-has-requires : tie.Need-facet-has-requires
-facet-has-requires c κs = search needs
 
 returns-3 : tie.Need-returns-3
 returns-3 c = chosen-here _ _ _ _ _ _ _ _ _ _ _ (c .before .before .before .before .before .before .word .ensures) (c .before .before .before .before .before .word2 .ensures) (c .before .before .before .before .if1 .left) _ (c .before .before .before .word3 .ensures) _ (c .before .before .wanted .ensures) _ (c .before .if2 .left) (c .facet-has .ensures)
@@ -35,12 +17,12 @@ pub chosen-spec : {M : Type 1} → statement M
 chosen-spec =
     tie.close
     (tie.spec
-    cast-j
-    word-requires
-    word-requires-2
+    (λ c. search needs)
+    (λ c κs. search needs)
+    (λ c κs. search needs)
     returns
-    word-requires-3
-    wanted-requires
+    (λ c κs. search needs)
+    (λ c κs. search needs)
     returns-2
-    facet-has-requires
+    (λ c κs. search needs)
     returns-3)

@@ -13,26 +13,11 @@ Inv-loop w caps cells n lab₀ a₀ lab a = (a ≤ n) × Merged (linkIn w caps c
 abbrev μ-loop : tie.MeasureT-loop
 μ-loop w caps cells n lab₀ a₀ lab a = n - a
 
-number-requires : tie.Need-number-requires Inv-loop μ-loop
-number-requires c κs = search needs
-
 loop-holds : tie.Need-loop-holds Inv-loop μ-loop
 loop-holds c = (omega arith, rows-none _ _ _)
 
-merge-row-requires : tie.Need-merge-row-requires Inv-loop μ-loop
-merge-row-requires c κs = search needs
-
-add-a : tie.Need-add-a Inv-loop μ-loop
-add-a c = search needs
-
-loop-less : tie.Need-loop-less Inv-loop μ-loop
-loop-less c = search needs
-
 loop-again : tie.Need-loop-again Inv-loop μ-loop
 loop-again c = (omega arith, rows-more _ _ (c .before .before .before .before .before .loop .a) _ _ _ (c .before .before .before .before .before .loop .inv .1) (c .before .before .merge-row .ensures (omega arith)))
-
-same-length : tie.Need-same-length Inv-loop μ-loop
-same-length c = search needs
 
 returns : tie.Need-returns Inv-loop μ-loop
 returns c = rows-end _ _ (c .before .loop .a) _ _ _ (c .before .before .before .before .number .ensures) (c .before .loop .inv .1) (omega arith)
@@ -43,11 +28,11 @@ labels-spec =
     (tie.spec
     Inv-loop
     μ-loop
-    number-requires
+    (λ c κs. search needs)
     loop-holds
-    merge-row-requires
-    add-a
-    loop-less
+    (λ c κs. search needs)
+    (λ c. search needs)
+    (λ c. search needs)
     loop-again
-    same-length
+    (λ c. search needs)
     returns)

@@ -18,29 +18,11 @@ Inv-loop w caps a b n f₀ f = (f ≤ n) × ((k : ℕ) → k < f → metIn w cap
 abbrev μ-loop : tie.MeasureT-loop
 μ-loop w caps a b n f₀ f = n - f
 
-cell-word-requires : tie.Need-cell-word-requires Inv-loop μ-loop
-cell-word-requires c κs = search needs
-
-facet-count-requires : tie.Need-facet-count-requires Inv-loop μ-loop
-facet-count-requires c κs = search needs
-
 loop-holds : tie.Need-loop-holds Inv-loop μ-loop
 loop-holds c = (omega arith, λ k h. absurd (not-suc-le-zero h))
 
-half-of-requires : tie.Need-half-of-requires Inv-loop μ-loop
-half-of-requires c κs = search needs
-
-meets-requires : tie.Need-meets-requires Inv-loop μ-loop
-meets-requires c κs = search needs
-
 returns : tie.Need-returns Inv-loop μ-loop
 returns c = linked-found _ _ _ _ _ _ (c .before .before .before .before .before .before .cell-word .ensures) (c .before .before .before .before .before .facet-count .ensures) (c .before .before .before .before .loop .f) (met-from _ _ _ _ (c .before .before .before .before .loop .f) _ _ (c .before .before .half-of .ensures) (c .before .meets .ensures) ∙ c .if1 .taken) (omega arith)
-
-add-f : tie.Need-add-f Inv-loop μ-loop
-add-f c = search needs
-
-loop-less : tie.Need-loop-less Inv-loop μ-loop
-loop-less c = search needs
 
 loop-again : tie.Need-loop-again Inv-loop μ-loop
 loop-again c = (omega arith, below-more _ _ (c .before .before .before .before .loop .inv .1) (met-from _ _ _ _ (c .before .before .before .before .loop .f) _ _ (c .before .before .half-of .ensures) (c .before .meets .ensures) ∙ c .if1 .left))
@@ -54,13 +36,13 @@ linked-spec =
     (tie.spec
     Inv-loop
     μ-loop
-    cell-word-requires
-    facet-count-requires
+    (λ c κs. search needs)
+    (λ c κs. search needs)
     loop-holds
-    half-of-requires
-    meets-requires
+    (λ c κs. search needs)
+    (λ c κs. search needs)
     returns
-    add-f
-    loop-less
+    (λ c. search needs)
+    (λ c. search needs)
     loop-again
     returns-2)

@@ -13,9 +13,6 @@ Inv-loop w caps start b h₀ left₀ h left = meetsIn w caps start b left h ≡ 
 abbrev μ-loop : tie.MeasureT-loop
 μ-loop w caps start b h₀ left₀ h left = left
 
-onward-requires : tie.Need-onward-requires Inv-loop μ-loop
-onward-requires c κs = search needs
-
 loop-holds : tie.Need-loop-holds Inv-loop μ-loop
 loop-holds c = meets-start _ _ _ _ _ (c .onward .ensures)
 
@@ -24,15 +21,6 @@ returns c = met-back _ _ _ _ (c .before .before .loop .left) (c .before .before 
 
 returns-2 : tie.Need-returns-2 Inv-loop μ-loop
 returns-2 c = met-here _ _ _ _ (c .before .before .before .loop .left) (c .before .before .before .loop .h) (c .before .before .before .loop .inv) (omega arith) (c .before .if1 .left) (c .if2 .taken)
-
-onward-requires-2 : tie.Need-onward-requires-2 Inv-loop μ-loop
-onward-requires-2 c κs = search needs
-
-sub-left : tie.Need-sub-left Inv-loop μ-loop
-sub-left c = search needs
-
-loop-less : tie.Need-loop-less Inv-loop μ-loop
-loop-less c = search needs
 
 loop-again : tie.Need-loop-again Inv-loop μ-loop
 loop-again c = met-more _ _ _ _ (c .before .before .before .before .loop .left) (c .before .before .before .before .loop .h) (c .before .before .before .before .loop .inv) (omega arith) (c .before .before .if1 .left) (c .before .if2 .left) _ (c .onward2 .ensures)
@@ -46,12 +34,12 @@ meets-spec =
     (tie.spec
     Inv-loop
     μ-loop
-    onward-requires
+    (λ c κs. search needs)
     loop-holds
     returns
     returns-2
-    onward-requires-2
-    sub-left
-    loop-less
+    (λ c κs. search needs)
+    (λ c. search needs)
+    (λ c. search needs)
     loop-again
     returns-3)

@@ -18,23 +18,8 @@ abbrev μ-loop : tie.MeasureT-loop
 loop-holds : tie.Need-loop-holds Inv-loop μ-loop
 loop-holds c = (omega arith, refl, λ below. row-none _ _ _ _)
 
-sub-b : tie.Need-sub-b Inv-loop μ-loop
-sub-b c = search needs
-
-cast-merge-pair : tie.Need-cast-merge-pair Inv-loop μ-loop
-cast-merge-pair c = search needs
-
-merge-pair-requires : tie.Need-merge-pair-requires Inv-loop μ-loop
-merge-pair-requires c κs = search needs
-
-loop-less : tie.Need-loop-less Inv-loop μ-loop
-loop-less c = search needs
-
 loop-again : tie.Need-loop-again Inv-loop μ-loop
 loop-again c = (omega arith, omega arith, λ below. row-more _ _ _ _ (c .before .before .before .before .before .loop .b) _ _ _ (omega arith) (c .before .before .before .before .before .loop .inv .2 below) (c .before .before .merge-pair .ensures (omega arith) below))
-
-same-length : tie.Need-same-length Inv-loop μ-loop
-same-length c = search needs
 
 returns : tie.Need-returns Inv-loop μ-loop
 returns c = λ below. row-end _ _ _ (c .before .loop .b) _ _ (c .before .loop .inv .2 below) (omega arith)
@@ -46,10 +31,10 @@ merge-row-spec =
     Inv-loop
     μ-loop
     loop-holds
-    sub-b
-    cast-merge-pair
-    merge-pair-requires
-    loop-less
+    (λ c. search needs)
+    (λ c. search needs)
+    (λ c κs. search needs)
+    (λ c. search needs)
     loop-again
-    same-length
+    (λ c. search needs)
     returns)

@@ -16,33 +16,12 @@ abbrev μ-loop : tie.MeasureT-loop
 loop-holds : tie.Need-loop-holds Inv-loop μ-loop
 loop-holds c = (omega arith, partly-start _ _ _)
 
-cast-word : tie.Need-cast-word Inv-loop μ-loop
-cast-word c = search needs
-
-word-requires : tie.Need-word-requires Inv-loop μ-loop
-word-requires c κs = search needs
-
-cast-put : tie.Need-cast-put Inv-loop μ-loop
-cast-put c = search needs
-
-put-requires : tie.Need-put-requires Inv-loop μ-loop
-put-requires c κs = search needs
-
-add-j : tie.Need-add-j Inv-loop μ-loop
-add-j c = search needs
-
-loop-less : tie.Need-loop-less Inv-loop μ-loop
-loop-less c = search needs
-
 loop-again : tie.Need-loop-again Inv-loop μ-loop
 loop-again c =
     ⊎-elim
     (λ w. (omega arith, rw (w .5) (partly-yes _ _ _ _ _ _ (c .before .before .before .before .loop .inv .1) (c .before .word .ensures) _ (w .0 .taken) (w .2 .ensures))))
     (λ w. (omega arith, rw (w .1) (partly-no _ _ _ _ _ _ (c .before .before .before .before .loop .inv .1) (c .before .word .ensures) (w .0 .left))))
     (c .if1 .came)
-
-same-length : tie.Need-same-length Inv-loop μ-loop
-same-length c = search needs
 
 returns : tie.Need-returns Inv-loop μ-loop
 returns c = partly-end (c .before .loop .j) _ _ _ _ _ (c .before .loop .inv .1) (c .before .loop .inv .0) (omega arith)
@@ -54,12 +33,12 @@ relabel-spec =
     Inv-loop
     μ-loop
     loop-holds
-    cast-word
-    word-requires
-    cast-put
-    put-requires
-    add-j
-    loop-less
+    (λ c. search needs)
+    (λ c κs. search needs)
+    (λ c. search needs)
+    (λ c κs. search needs)
+    (λ c. search needs)
+    (λ c. search needs)
     loop-again
-    same-length
+    (λ c. search needs)
     returns)

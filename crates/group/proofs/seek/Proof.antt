@@ -20,17 +20,8 @@ abbrev μ-loop : tie.MeasureT-loop
 loop-holds : tie.Need-loop-holds Inv-loop μ-loop
 loop-holds c = (omega arith, λ k h. absurd (not-suc-le-zero h))
 
-chosen-requires : tie.Need-chosen-requires Inv-loop μ-loop
-chosen-requires c κs = search needs
-
 returns : tie.Need-returns Inv-loop μ-loop
 returns c = seek-found _ _ _ _ _ _ _ _ _ (c .before .before .before .loop .x) (c .before .before .before .loop .inv .1) (sym (c .before .chosen .ensures) ∙ c .if1 .taken) (omega arith)
-
-add-x : tie.Need-add-x Inv-loop μ-loop
-add-x c = search needs
-
-loop-less : tie.Need-loop-less Inv-loop μ-loop
-loop-less c = search needs
 
 loop-again : tie.Need-loop-again Inv-loop μ-loop
 loop-again c = (omega arith, below-more _ _ (c .before .before .before .loop .inv .1) (sym (c .before .chosen .ensures) ∙ c .if1 .left))
@@ -45,9 +36,9 @@ seek-spec =
     Inv-loop
     μ-loop
     loop-holds
-    chosen-requires
+    (λ c κs. search needs)
     returns
-    add-x
-    loop-less
+    (λ c. search needs)
+    (λ c. search needs)
     loop-again
     returns-2)

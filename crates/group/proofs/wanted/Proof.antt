@@ -7,11 +7,8 @@ use Rattle.group.proofs.wanted.Tie as tie
 returns : tie.Need-returns
 returns c = wanted-any _ _ _ _ _ (c .if1 .taken)
 
-alone-requires : tie.Need-alone-requires
-alone-requires c κs = search needs
-
 returns-2 : tie.Need-returns-2
 returns-2 c = wanted-border _ _ _ _ _ _ (c .before .if1 .left) (c .alone .ensures)
 
 pub wanted-spec : {M : Type 1} → statement M
-wanted-spec = tie.close (tie.spec returns alone-requires returns-2)
+wanted-spec = tie.close (tie.spec returns (λ c κs. search needs) returns-2)

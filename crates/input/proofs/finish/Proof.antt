@@ -8,14 +8,8 @@ use Rattle.input.proofs.finish.Tie as tie
 returns : tie.Need-returns
 returns c = finish-none _ _ _ (omega arith) (omega arith)
 
-write-verdict-requires : tie.Need-write-verdict-requires
-write-verdict-requires c κs = search needs
-
-same-length : tie.Need-same-length
-same-length c = search needs
-
 returns-2 : tie.Need-returns-2
 returns-2 c = finish-cut _ _ _ _ _ (λ z. omega arith) (omega arith) (c .before .before .write-verdict .ensures)
 
 pub finish-spec : {M : Type 1} → statement M
-finish-spec = tie.close (tie.spec returns write-verdict-requires same-length returns-2)
+finish-spec = tie.close (tie.spec returns (λ c κs. search needs) (λ c. search needs) returns-2)

@@ -11,18 +11,9 @@ returns c = kept-full _ _ _ (omega arith)
 returns-2 : tie.Need-returns-2
 returns-2 c = kept-out _ _ _ (omega arith) (omega arith)
 
-slice-write-line : tie.Need-slice-write-line
-slice-write-line c = search needs
-
-add-result : tie.Need-add-result
-add-result c = search needs
-
-same-length : tie.Need-same-length
-same-length c = search needs
-
 returns-3 : tie.Need-returns-3
 returns-3 c = kept-more _ _ _ _ (omega arith) (omega arith) (omega arith)
 
 pub keep-spec : {M : Type 1} → statement M
 keep-spec =
-    tie.close (tie.spec returns returns-2 slice-write-line add-result same-length returns-3)
+    tie.close (tie.spec returns returns-2 (λ c. search needs) (λ c. search needs) (λ c. search needs) returns-3)

@@ -8,14 +8,8 @@ use Rattle.input.proofs.start.Tie as tie
 returns : tie.Need-returns
 returns c = start-short _ (omega arith)
 
-format-requires : tie.Need-format-requires
-format-requires c κs = search needs
-
-same-length : tie.Need-same-length
-same-length c = search needs
-
 returns-2 : tie.Need-returns-2
 returns-2 c = start-formatted _ _ _ _ _ (omega arith) (omega arith) (omega arith) (c .before .before .format .ensures)
 
 pub start-spec : {M : Type 1} → statement M
-start-spec = tie.close (tie.spec returns format-requires same-length returns-2)
+start-spec = tie.close (tie.spec returns (λ c κs. search needs) (λ c. search needs) returns-2)

@@ -23,23 +23,8 @@ abbrev μ-loop : tie.MeasureT-loop
 loop-holds : tie.Need-loop-holds Inv-loop μ-loop
 loop-holds c = (search needs, refl)
 
-mul-linked : tie.Need-mul-linked Inv-loop μ-loop
-mul-linked c = search needs
-
-shared-slice-read-linked : tie.Need-shared-slice-read-linked Inv-loop μ-loop
-shared-slice-read-linked c = search needs
-
-linked-requires : tie.Need-linked-requires Inv-loop μ-loop
-linked-requires c κs = search needs
-
 returns : tie.Need-returns Inv-loop μ-loop
 returns c = all-stop _ _ (c .before .before .before .before .loop .i) (c .before .before .before .before .loop .inv .1) (sym (c .before .linked .ensures) ∙ not-true _ (c .if1 .taken)) (omega arith)
-
-add-i : tie.Need-add-i Inv-loop μ-loop
-add-i c = search needs
-
-loop-less : tie.Need-loop-less Inv-loop μ-loop
-loop-less c = search needs
 
 loop-again : tie.Need-loop-again Inv-loop μ-loop
 loop-again c = (omega arith, all-go _ _ (c .before .before .before .before .loop .i) (c .before .before .before .before .loop .inv .1) (sym (c .before .linked .ensures) ∙ not-false _ (c .if1 .left)) (omega arith))
@@ -54,11 +39,11 @@ all-linked-spec =
     Inv-loop
     μ-loop
     loop-holds
-    mul-linked
-    shared-slice-read-linked
-    linked-requires
+    (λ c. search needs)
+    (λ c. search needs)
+    (λ c κs. search needs)
     returns
-    add-i
-    loop-less
+    (λ c. search needs)
+    (λ c. search needs)
     loop-again
     returns-2)

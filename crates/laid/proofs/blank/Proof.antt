@@ -21,27 +21,12 @@ Inv-loop w at n l i₀ i = (i ≤ length l) × (all (λ x. eqb x 0) l ≡ all (�
 abbrev μ-loop : tie.MeasureT-loop
 μ-loop w at n l i₀ i = length l - i
 
-part-requires : tie.Need-part-requires Inv-loop μ-loop
-part-requires c κs = search needs
-
 loop-holds : tie.Need-loop-holds Inv-loop μ-loop
 loop-holds c = (omega arith, refl)
-
-mul-if1 : tie.Need-mul-if1 Inv-loop μ-loop
-mul-if1 c = search needs
-
-shared-slice-read-if1 : tie.Need-shared-slice-read-if1 Inv-loop μ-loop
-shared-slice-read-if1 c = search needs
 
 returns : tie.Need-returns Inv-loop μ-loop
 unfolding blankIn
 returns c = rw (← c .before .before .before .before .part .ensures .words) (all-stop (λ x. eqb x 0) _ (c .before .before .before .loop .i) (c .before .before .before .loop .inv .1) (ne-eqb _ _ (c .if1 .taken)) (omega arith))
-
-add-i : tie.Need-add-i Inv-loop μ-loop
-add-i c = search needs
-
-loop-less : tie.Need-loop-less Inv-loop μ-loop
-loop-less c = search needs
 
 loop-again : tie.Need-loop-again Inv-loop μ-loop
 loop-again c = (omega arith, all-go (λ x. eqb x 0) _ (c .before .before .before .loop .i) (c .before .before .before .loop .inv .1) (eq-eqb _ _ (c .if1 .left)) (omega arith))
@@ -56,12 +41,12 @@ blank-spec =
     (tie.spec
     Inv-loop
     μ-loop
-    part-requires
+    (λ c κs. search needs)
     loop-holds
-    mul-if1
-    shared-slice-read-if1
+    (λ c. search needs)
+    (λ c. search needs)
     returns
-    add-i
-    loop-less
+    (λ c. search needs)
+    (λ c. search needs)
     loop-again
     returns-2)

@@ -13,18 +13,9 @@ use Rattle.laid.proofs.all_linked.Reads as all-linked-reads
 use Rattle.laid.proofs.marks_at.Reads as marks-at-reads
 use Rattle.laid.proofs.record_ok.Reads as record-ok-reads
 
-record-ok-requires : tie.Need-record-ok-requires
-record-ok-requires c κs = search needs
-
 returns : tie.Need-returns
 unfolding cellIn
 returns c = and-no _ _ (sym (c .before .record-ok .ensures) ∙ not-true _ (c .if1 .taken))
-
-marks-at-requires : tie.Need-marks-at-requires
-marks-at-requires c κs = search needs
-
-all-linked-requires : tie.Need-all-linked-requires
-all-linked-requires c κs = search needs
 
 returns-2 : tie.Need-returns-2
 unfolding cellIn
@@ -32,4 +23,4 @@ returns-2 c = and-yes _ _ _ (sym (c .before .before .before .record-ok .ensures)
 
 pub cell-ok-spec : {M : Type 1} → statement M
 cell-ok-spec =
-    tie.close (tie.spec record-ok-requires returns marks-at-requires all-linked-requires returns-2)
+    tie.close (tie.spec (λ c κs. search needs) returns (λ c κs. search needs) (λ c κs. search needs) returns-2)

@@ -19,38 +19,14 @@ Inv-loop w caps v count link₀ low₀ n₀ link low n = (n ≤ 128) × Going w 
 abbrev μ-loop : tie.MeasureT-loop
 μ-loop w caps v count link₀ low₀ n₀ link low n = 128 - n
 
-mark-word-requires : tie.Need-mark-word-requires Inv-loop μ-loop
-mark-word-requires c κs = search needs
-
-mark-word-requires-2 : tie.Need-mark-word-requires-2 Inv-loop μ-loop
-mark-word-requires-2 c κs = search needs
-
 loop-holds : tie.Need-loop-holds Inv-loop μ-loop
 loop-holds c = (omega arith, go-start _ _ _ _ (c .mark-word2 .ensures))
 
 returns : tie.Need-returns Inv-loop μ-loop
 returns c = go-end _ _ _ (c .before .before .loop .n) _ (c .before .before .loop .low) _ (c .before .before .loop .inv .1) (c .if1 .taken) (c .before .before .before .before .mark-word .ensures)
 
-sub-stands : tie.Need-sub-stands Inv-loop μ-loop
-sub-stands c = search needs
-
-stands-requires : tie.Need-stands-requires Inv-loop μ-loop
-stands-requires c κs = search needs
-
 returns-2 : tie.Need-returns-2 Inv-loop μ-loop
 returns-2 c = go-no _ _ _ (c .before .before .before .before .loop .n) (c .before .before .before .before .loop .link) (c .before .before .before .before .loop .low) (c .before .before .before .before .loop .inv .1) (omega arith) (omega arith) (sym (c .before .stands .ensures) ∙ not-true _ (c .if2 .taken))
-
-sub-link-after : tie.Need-sub-link-after Inv-loop μ-loop
-sub-link-after c = search needs
-
-link-after-requires : tie.Need-link-after-requires Inv-loop μ-loop
-link-after-requires c κs = search needs
-
-add-n : tie.Need-add-n Inv-loop μ-loop
-add-n c = search needs
-
-loop-less : tie.Need-loop-less Inv-loop μ-loop
-loop-less c = search needs
 
 loop-again : tie.Need-loop-again Inv-loop μ-loop
 loop-again c = (omega arith, go-more _ _ _ (c .before .before .before .before .before .loop .n) (c .before .before .before .before .before .loop .link) (c .before .before .before .before .before .loop .low) _ (c .before .before .before .before .before .loop .inv .1) (omega arith) (omega arith) (sym (c .before .before .stands .ensures) ∙ not-false _ (c .before .if2 .left)) (c .link-after .ensures))
@@ -67,17 +43,17 @@ chain-ok-spec =
     (tie.spec
     Inv-loop
     μ-loop
-    mark-word-requires
-    mark-word-requires-2
+    (λ c κs. search needs)
+    (λ c κs. search needs)
     loop-holds
     returns
-    sub-stands
-    stands-requires
+    (λ c. search needs)
+    (λ c κs. search needs)
     returns-2
-    sub-link-after
-    link-after-requires
-    add-n
-    loop-less
+    (λ c. search needs)
+    (λ c κs. search needs)
+    (λ c. search needs)
+    (λ c. search needs)
     loop-again
     returns-3
     returns-4)

@@ -10,19 +10,13 @@ use Rattle.laid.proofs.fine.Lts as lts
 use Rattle.lists.proofs.reaches.Reads as reaches-reads
 use Rattle.lists.proofs.repeats.Reads as repeats-reads
 
-reaches-requires : tie.Need-reaches-requires
-reaches-requires c κs = search needs
-
 returns : tie.Need-returns
 unfolding fineIn
 returns c = and-no _ _ (ap not (sym (c .before .reaches .ensures) ∙ c .if1 .taken))
-
-repeats-requires : tie.Need-repeats-requires
-repeats-requires c κs = search needs
 
 returns-2 : tie.Need-returns-2
 unfolding fineIn
 returns-2 c = and-yes _ _ _ (ap not (sym (c .before .before .reaches .ensures) ∙ c .before .if1 .left)) (ap not (c .repeats .ensures))
 
 pub fine-spec : {M : Type 1} → statement M
-fine-spec = tie.close (tie.spec reaches-requires returns repeats-requires returns-2)
+fine-spec = tie.close (tie.spec (λ c κs. search needs) returns (λ c κs. search needs) returns-2)

@@ -10,19 +10,13 @@ use Rattle.laid.proofs.head_ok.Reads as reads
 use Rattle.laid.proofs.head_ok.Lts as lts
 use Rattle.laid.proofs.blank.Reads as blank-reads
 
-blank-requires : tie.Need-blank-requires
-blank-requires c κs = search needs
-
 returns : tie.Need-returns
 unfolding headIn
 returns c = and-no _ _ (sym (c .before .blank .ensures) ∙ not-true _ (c .if1 .taken))
-
-blank-requires-2 : tie.Need-blank-requires-2
-blank-requires-2 c κs = search needs
 
 returns-2 : tie.Need-returns-2
 unfolding headIn
 returns-2 c = and-yes _ _ _ (sym (c .before .before .blank .ensures) ∙ not-false _ (c .before .if1 .left)) (c .blank2 .ensures)
 
 pub head-ok-spec : {M : Type 1} → statement M
-head-ok-spec = tie.close (tie.spec blank-requires returns blank-requires-2 returns-2)
+head-ok-spec = tie.close (tie.spec (λ c κs. search needs) returns (λ c κs. search needs) returns-2)

@@ -12,22 +12,13 @@ use Rattle.laid.proofs.cells_ok.Reads as cells-ok-reads
 use Rattle.laid.proofs.head_ok.Reads as head-ok-reads
 use Rattle.laid.proofs.marks_ok.Reads as marks-ok-reads
 
-head-ok-requires : tie.Need-head-ok-requires
-head-ok-requires c κs = search needs
-
 returns : tie.Need-returns
 unfolding laidIn
 returns c = and-no _ _ (sym (c .before .head-ok .ensures) ∙ not-true _ (c .if1 .taken))
 
-marks-ok-requires : tie.Need-marks-ok-requires
-marks-ok-requires c κs = search needs
-
 returns-2 : tie.Need-returns-2
 unfolding laidIn
 returns-2 c = and-yes _ _ _ (sym (c .before .before .before .head-ok .ensures) ∙ not-false _ (c .before .before .if1 .left)) (and-no _ _ (sym (c .before .marks-ok .ensures) ∙ not-true _ (c .if2 .taken)))
-
-cells-ok-requires : tie.Need-cells-ok-requires
-cells-ok-requires c κs = search needs
 
 returns-3 : tie.Need-returns-3
 unfolding laidIn
@@ -36,4 +27,4 @@ returns-3 c = and-yes _ _ _ (sym (c .before .before .before .before .head-ok .en
 pub laid-spec : {M : Type 1} → statement M
 laid-spec =
     tie.close
-    (tie.spec head-ok-requires returns marks-ok-requires returns-2 cells-ok-requires returns-3)
+    (tie.spec (λ c κs. search needs) returns (λ c κs. search needs) returns-2 (λ c κs. search needs) returns-3)

@@ -16,32 +16,14 @@ Inv-loop w caps c v link₀ n₀ link n = (n ≤ 128) × Looking w caps c v n li
 abbrev μ-loop : tie.MeasureT-loop
 μ-loop w caps c v link₀ n₀ link n = 128 - n
 
-mark-word-requires : tie.Need-mark-word-requires Inv-loop μ-loop
-mark-word-requires c κs = search needs
-
 loop-holds : tie.Need-loop-holds Inv-loop μ-loop
 loop-holds c = (omega arith, look-start _ _ _ _ _ (c .mark-word .ensures))
 
 returns : tie.Need-returns Inv-loop μ-loop
 returns c = look-none _ _ _ _ (c .before .before .loop .n) _ (c .before .before .loop .inv .1) (c .if1 .taken)
 
-sub-if2 : tie.Need-sub-if2 Inv-loop μ-loop
-sub-if2 c = search needs
-
 returns-2 : tie.Need-returns-2 Inv-loop μ-loop
 returns-2 c = look-here _ _ _ _ (c .before .before .before .loop .n) _ (c .before .before .before .loop .inv .1) (omega arith) (omega arith) (c .if2 .taken)
-
-sub-link-after : tie.Need-sub-link-after Inv-loop μ-loop
-sub-link-after c = search needs
-
-link-after-requires : tie.Need-link-after-requires Inv-loop μ-loop
-link-after-requires c κs = search needs
-
-add-n : tie.Need-add-n Inv-loop μ-loop
-add-n c = search needs
-
-loop-less : tie.Need-loop-less Inv-loop μ-loop
-loop-less c = search needs
 
 loop-again : tie.Need-loop-again Inv-loop μ-loop
 loop-again c = (omega arith, look-more _ _ _ _ (c .before .before .before .before .loop .n) (c .before .before .before .before .loop .link) _ (c .before .before .before .before .loop .inv .1) (omega arith) (omega arith) (omega arith) (c .link-after .ensures))
@@ -55,14 +37,14 @@ linked-spec =
     (tie.spec
     Inv-loop
     μ-loop
-    mark-word-requires
+    (λ c κs. search needs)
     loop-holds
     returns
-    sub-if2
+    (λ c. search needs)
     returns-2
-    sub-link-after
-    link-after-requires
-    add-n
-    loop-less
+    (λ c. search needs)
+    (λ c κs. search needs)
+    (λ c. search needs)
+    (λ c. search needs)
     loop-again
     returns-3)

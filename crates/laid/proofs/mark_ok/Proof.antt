@@ -12,24 +12,9 @@ use Rattle.laid.proofs.mark_ok.Lts as lts
 use Rattle.laid.proofs.blank.Reads as blank-reads
 use Rattle.laid.proofs.chain_ok.Reads as chain-ok-reads
 
-mul-blank : tie.Need-mul-blank
-mul-blank c = search needs
-
-add-blank : tie.Need-add-blank
-add-blank c = search needs
-
-add-blank-2 : tie.Need-add-blank-2
-add-blank-2 c = search needs
-
-blank-requires : tie.Need-blank-requires
-blank-requires c κs = search needs
-
 returns : tie.Need-returns
 unfolding markIn markAt
 returns c = and-no _ _ (sym (c .before .blank .ensures) ∙ not-true _ (c .if1 .taken))
-
-chain-ok-requires : tie.Need-chain-ok-requires
-chain-ok-requires c κs = search needs
 
 returns-2 : tie.Need-returns-2
 unfolding markIn markAt
@@ -38,4 +23,4 @@ returns-2 c = and-yes _ _ _ (sym (c .before .before .blank .ensures) ∙ not-fal
 pub mark-ok-spec : {M : Type 1} → statement M
 mark-ok-spec =
     tie.close
-    (tie.spec mul-blank add-blank add-blank-2 blank-requires returns chain-ok-requires returns-2)
+    (tie.spec (λ c. search needs) (λ c. search needs) (λ c. search needs) (λ c κs. search needs) returns (λ c κs. search needs) returns-2)

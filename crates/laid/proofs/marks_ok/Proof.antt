@@ -22,17 +22,8 @@ abbrev μ-loop : tie.MeasureT-loop
 loop-holds : tie.Need-loop-holds Inv-loop μ-loop
 loop-holds c = (omega arith, every-start _)
 
-mark-ok-requires : tie.Need-mark-ok-requires Inv-loop μ-loop
-mark-ok-requires c κs = search needs
-
 returns : tie.Need-returns Inv-loop μ-loop
 returns c = every-stop _ _ (c .before .before .before .before .loop .v) (omega arith) (sym (c .before .mark-ok .ensures) ∙ not-true _ (c .if2 .taken))
-
-add-v : tie.Need-add-v Inv-loop μ-loop
-add-v c = search needs
-
-loop-less : tie.Need-loop-less Inv-loop μ-loop
-loop-less c = search needs
 
 loop-again : tie.Need-loop-again Inv-loop μ-loop
 loop-again c = (omega arith, every-more _ (c .before .before .before .before .loop .v) (c .before .before .before .before .loop .inv .1) (sym (c .before .mark-ok .ensures) ∙ not-false _ (c .if2 .left)))
@@ -47,9 +38,9 @@ marks-ok-spec =
     Inv-loop
     μ-loop
     loop-holds
-    mark-ok-requires
+    (λ c κs. search needs)
     returns
-    add-v
-    loop-less
+    (λ c. search needs)
+    (λ c. search needs)
     loop-again
     returns-2)

@@ -16,28 +16,13 @@ use Rattle.laid.proofs.rest.Reads as rest-reads
 use Rattle.laid.proofs.typed.Reads as typed-reads
 use Rattle.store.proofs.cell_word.Reads as cell-word-reads
 
-cell-word-requires : tie.Need-cell-word-requires
-cell-word-requires c κs = search needs
-
-typed-requires : tie.Need-typed-requires
-typed-requires c κs = search needs
-
 returns : tie.Need-returns
 unfolding recordIn codeIn
 returns c = rw (← c .before .before .cell-word .ensures) (and-no _ _ (sym (c .before .typed .ensures) ∙ not-true _ (c .if1 .taken)))
 
-marks-at-requires : tie.Need-marks-at-requires
-marks-at-requires c κs = search needs
-
-fine-requires : tie.Need-fine-requires
-fine-requires c κs = search needs
-
 returns-2 : tie.Need-returns-2
 unfolding recordIn codeIn
 returns-2 c = rw (← c .before .before .before .before .before .cell-word .ensures, ← marks-words (c .before .before .marks-at .ensures)) (and-yes _ _ _ (sym (c .before .before .before .before .typed .ensures) ∙ not-false _ (c .before .before .before .if1 .left)) (and-no _ _ (sym (c .before .fine .ensures) ∙ not-true _ (c .if2 .taken))))
-
-rest-requires : tie.Need-rest-requires
-rest-requires c κs = search needs
 
 returns-3 : tie.Need-returns-3
 unfolding recordIn codeIn
@@ -47,11 +32,11 @@ pub record-ok-spec : {M : Type 1} → statement M
 record-ok-spec =
     tie.close
     (tie.spec
-    cell-word-requires
-    typed-requires
+    (λ c κs. search needs)
+    (λ c κs. search needs)
     returns
-    marks-at-requires
-    fine-requires
+    (λ c κs. search needs)
+    (λ c κs. search needs)
     returns-2
-    rest-requires
+    (λ c κs. search needs)
     returns-3)

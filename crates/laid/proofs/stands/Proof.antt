@@ -21,15 +21,9 @@ returns-2 : tie.Need-returns-2
 unfolding standsIn
 returns-2 c = and-yes _ _ _ (le-leb _ _ (c .before .before .if1 .left)) (and-no _ _ (le-ltb _ _ (c .if2 .taken)))
 
-marks-at-requires : tie.Need-marks-at-requires
-marks-at-requires c κs = search needs
-
-has-requires : tie.Need-has-requires
-has-requires c κs = search needs
-
 returns-3 : tie.Need-returns-3
 unfolding standsIn
 returns-3 c = and-yes _ _ _ (le-leb _ _ (c .before .before .before .before .if1 .left)) (and-yes _ _ _ (lt-ltb _ _ (c .before .before .if2 .left)) (rw (← marks-words (c .before .marks-at .ensures)) (c .has .ensures)))
 
 pub stands-spec : {M : Type 1} → statement M
-stands-spec = tie.close (tie.spec returns returns-2 marks-at-requires has-requires returns-3)
+stands-spec = tie.close (tie.spec returns returns-2 (λ c κs. search needs) (λ c κs. search needs) returns-3)

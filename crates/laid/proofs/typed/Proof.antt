@@ -13,12 +13,9 @@ returns : tie.Need-returns
 unfolding typedIn
 returns c = rw (eq-eqb _ _ (c .if1 .taken))
 
-dimension-requires : tie.Need-dimension-requires
-dimension-requires c κs = search needs
-
 returns-2 : tie.Need-returns-2
 unfolding typedIn
 returns-2 c = rw (ne-eqb _ _ (c .before .if1 .left), c .dimension .ensures)
 
 pub typed-spec : {M : Type 1} → statement M
-typed-spec = tie.close (tie.spec returns dimension-requires returns-2)
+typed-spec = tie.close (tie.spec returns (λ c κs. search needs) returns-2)

@@ -18,23 +18,8 @@ abbrev μ-loop : tie.MeasureT-loop
 loop-holds : tie.Need-loop-holds Inv-loop μ-loop
 loop-holds c = (search needs, refl)
 
-add-next : tie.Need-add-next Inv-loop μ-loop
-add-next c = search needs
-
-mul-has-from : tie.Need-mul-has-from Inv-loop μ-loop
-mul-has-from c = search needs
-
-shared-slice-read-has-from : tie.Need-shared-slice-read-has-from Inv-loop μ-loop
-shared-slice-read-has-from c = search needs
-
-has-from-requires : tie.Need-has-from-requires Inv-loop μ-loop
-has-from-requires c κs = search needs
-
 returns : tie.Need-returns Inv-loop μ-loop
 returns c = repeats-stop _ (c .before .before .before .before .loop .i) (c .before .before .before .before .loop .inv .1) (sym (c .before .has-from .ensures) ∙ c .if1 .taken) (omega arith)
-
-loop-less : tie.Need-loop-less Inv-loop μ-loop
-loop-less c = search needs
 
 loop-again : tie.Need-loop-again Inv-loop μ-loop
 loop-again c = (omega arith, repeats-go _ (c .before .before .before .before .loop .i) (c .before .before .before .before .loop .inv .1) (sym (c .before .has-from .ensures) ∙ c .if1 .left) (omega arith))
@@ -49,11 +34,11 @@ repeats-spec =
     Inv-loop
     μ-loop
     loop-holds
-    add-next
-    mul-has-from
-    shared-slice-read-has-from
-    has-from-requires
+    (λ c. search needs)
+    (λ c. search needs)
+    (λ c. search needs)
+    (λ c κs. search needs)
     returns
-    loop-less
+    (λ c. search needs)
     loop-again
     returns-2)

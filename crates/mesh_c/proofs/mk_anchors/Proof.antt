@@ -4,17 +4,8 @@ use borrow.Author.Needs.{needs}
 use Rattle.mesh_c.proofs.mk_anchors.Statement.{statement}
 use Rattle.mesh_c.proofs.mk_anchors.Tie as tie
 
-anchors-requires : tie.Need-anchors-requires
-anchors-requires c κs = search needs
-
-tell-value-requires : tie.Need-tell-value-requires
-tell-value-requires c κs = search needs
-
-same-length : tie.Need-same-length
-same-length c = search needs
-
 returns : tie.Need-returns
 returns c = listed-out _ _ _ _ _ _ (c .before .before .before .before .anchors .ensures) _ _ _ (c .tell-value .ensures)
 
 pub mk-anchors-spec : {M : Type 1} → statement M
-mk-anchors-spec = tie.close (tie.spec anchors-requires tell-value-requires same-length returns)
+mk-anchors-spec = tie.close (tie.spec (λ c κs. search needs) (λ c κs. search needs) (λ c. search needs) returns)

@@ -5,14 +5,8 @@ use borrow.Author.Needs.{needs}
 use Rattle.mesh_c.proofs.mk_border.Statement.{statement}
 use Rattle.mesh_c.proofs.mk_border.Tie as tie
 
-border-requires : tie.Need-border-requires
-border-requires c κs = search needs
-
-tell-truth-requires : tie.Need-tell-truth-requires
-tell-truth-requires c κs = search needs
-
 returns : tie.Need-returns
 returns c = answered truth-plain _ _ _ (c .before .before .border .ensures) _ _ _ (c .tell-truth .ensures)
 
 pub mk-border-spec : {M : Type 1} → statement M
-mk-border-spec = tie.close (tie.spec border-requires tell-truth-requires returns)
+mk-border-spec = tie.close (tie.spec (λ c κs. search needs) (λ c κs. search needs) returns)

@@ -4,17 +4,8 @@ use borrow.Author.Needs.{needs}
 use Rattle.mesh_c.proofs.mk_cells.Statement.{statement}
 use Rattle.mesh_c.proofs.mk_cells.Tie as tie
 
-cells-of-type-requires : tie.Need-cells-of-type-requires
-cells-of-type-requires c κs = search needs
-
-tell-value-requires : tie.Need-tell-value-requires
-tell-value-requires c κs = search needs
-
-same-length : tie.Need-same-length
-same-length c = search needs
-
 returns : tie.Need-returns
 returns c = listed-out _ _ _ _ _ _ (c .before .before .before .before .cells-of-type .ensures) _ _ _ (c .tell-value .ensures)
 
 pub mk-cells-spec : {M : Type 1} → statement M
-mk-cells-spec = tie.close (tie.spec cells-of-type-requires tell-value-requires same-length returns)
+mk-cells-spec = tie.close (tie.spec (λ c κs. search needs) (λ c κs. search needs) (λ c. search needs) returns)

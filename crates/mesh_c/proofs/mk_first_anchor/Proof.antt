@@ -4,14 +4,8 @@ use borrow.Author.Needs.{needs}
 use Rattle.mesh_c.proofs.mk_first_anchor.Statement.{statement}
 use Rattle.mesh_c.proofs.mk_first_anchor.Tie as tie
 
-first-anchor-requires : tie.Need-first-anchor-requires
-first-anchor-requires c κs = search needs
-
-tell-found-requires : tie.Need-tell-found-requires
-tell-found-requires c κs = search needs
-
 returns : tie.Need-returns
 returns c = sought _ _ _ (c .before .before .before .first-anchor .ensures) _ _ _ _ _ (c .tell-found .ensures)
 
 pub mk-first-anchor-spec : {M : Type 1} → statement M
-mk-first-anchor-spec = tie.close (tie.spec first-anchor-requires tell-found-requires returns)
+mk-first-anchor-spec = tie.close (tie.spec (λ c κs. search needs) (λ c κs. search needs) returns)

@@ -4,17 +4,8 @@ use borrow.Author.Needs.{needs}
 use Rattle.mesh_c.proofs.mk_insert.Statement.{statement}
 use Rattle.mesh_c.proofs.mk_insert.Tie as tie
 
-insert-requires : tie.Need-insert-requires
-insert-requires c κs = search needs
-
-tell-verdict-requires : tie.Need-tell-verdict-requires
-tell-verdict-requires c κs = search needs
-
-same-length : tie.Need-same-length
-same-length c = search needs
-
 returns : tie.Need-returns
 returns c = changed _ _ (c .tell-verdict .ensures) _ _ _ (c .before .before .before .insert .ensures)
 
 pub mk-insert-spec : {M : Type 1} → statement M
-mk-insert-spec = tie.close (tie.spec insert-requires tell-verdict-requires same-length returns)
+mk-insert-spec = tie.close (tie.spec (λ c κs. search needs) (λ c κs. search needs) (λ c. search needs) returns)

@@ -4,14 +4,8 @@ use borrow.Author.Needs.{needs}
 use Rattle.mesh_c.proofs.mk_lookup.Statement.{statement}
 use Rattle.mesh_c.proofs.mk_lookup.Tie as tie
 
-lookup-requires : tie.Need-lookup-requires
-lookup-requires c κs = search needs
-
-tell-found-requires : tie.Need-tell-found-requires
-tell-found-requires c κs = search needs
-
 returns : tie.Need-returns
 returns c = sought _ _ _ (c .before .before .before .lookup .ensures) _ _ _ _ _ (c .tell-found .ensures)
 
 pub mk-lookup-spec : {M : Type 1} → statement M
-mk-lookup-spec = tie.close (tie.spec lookup-requires tell-found-requires returns)
+mk-lookup-spec = tie.close (tie.spec (λ c κs. search needs) (λ c κs. search needs) returns)

@@ -4,17 +4,8 @@ use borrow.Author.Needs.{needs}
 use Rattle.mesh_c.proofs.mk_remove.Statement.{statement}
 use Rattle.mesh_c.proofs.mk_remove.Tie as tie
 
-remove-requires : tie.Need-remove-requires
-remove-requires c κs = search needs
-
-tell-verdict-requires : tie.Need-tell-verdict-requires
-tell-verdict-requires c κs = search needs
-
-same-length : tie.Need-same-length
-same-length c = search needs
-
 returns : tie.Need-returns
 returns c = changed _ _ (c .tell-verdict .ensures) _ _ _ (c .before .before .before .remove .ensures)
 
 pub mk-remove-spec : {M : Type 1} → statement M
-mk-remove-spec = tie.close (tie.spec remove-requires tell-verdict-requires same-length returns)
+mk-remove-spec = tie.close (tie.spec (λ c κs. search needs) (λ c κs. search needs) (λ c. search needs) returns)

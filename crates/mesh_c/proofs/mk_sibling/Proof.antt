@@ -5,14 +5,8 @@ use borrow.Author.Needs.{needs}
 use Rattle.mesh_c.proofs.mk_sibling.Statement.{statement}
 use Rattle.mesh_c.proofs.mk_sibling.Tie as tie
 
-sibling-requires : tie.Need-sibling-requires
-sibling-requires c κs = search needs
-
-tell-half-requires : tie.Need-tell-half-requires
-tell-half-requires c κs = search needs
-
 returns : tie.Need-returns
 returns c = answered half-plain _ _ _ (c .before .before .sibling .ensures) _ _ _ (c .tell-half .ensures)
 
 pub mk-sibling-spec : {M : Type 1} → statement M
-mk-sibling-spec = tie.close (tie.spec sibling-requires tell-half-requires returns)
+mk-sibling-spec = tie.close (tie.spec (λ c κs. search needs) (λ c κs. search needs) returns)

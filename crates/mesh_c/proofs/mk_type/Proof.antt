@@ -5,14 +5,8 @@ use borrow.Author.Needs.{needs}
 use Rattle.mesh_c.proofs.mk_type.Statement.{statement}
 use Rattle.mesh_c.proofs.mk_type.Tie as tie
 
-type-of-requires : tie.Need-type-of-requires
-type-of-requires c κs = search needs
-
-tell-value-requires : tie.Need-tell-value-requires
-tell-value-requires c κs = search needs
-
 returns : tie.Need-returns
 returns c = answered value-plain _ _ _ (c .before .before .type-of .ensures) _ _ _ (c .tell-value .ensures)
 
 pub mk-type-spec : {M : Type 1} → statement M
-mk-type-spec = tie.close (tie.spec type-of-requires tell-value-requires returns)
+mk-type-spec = tie.close (tie.spec (λ c κs. search needs) (λ c κs. search needs) returns)

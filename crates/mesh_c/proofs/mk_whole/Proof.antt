@@ -4,9 +4,6 @@ use borrow.Author.Needs.{needs}
 use Rattle.mesh_c.proofs.mk_whole.Statement.{statement}
 use Rattle.mesh_c.proofs.mk_whole.Tie as tie
 
-whole-requires : tie.Need-whole-requires
-whole-requires c κs = search needs
-
 returns : tie.Need-returns
 returns c = judged-yes _ _ (c .before .whole .ensures) (c .if1 .taken)
 
@@ -14,4 +11,4 @@ returns-2 : tie.Need-returns-2
 returns-2 c = judged-no _ _ (c .before .whole .ensures) (c .if1 .left)
 
 pub mk-whole-spec : {M : Type 1} → statement M
-mk-whole-spec = tie.close (tie.spec whole-requires returns returns-2)
+mk-whole-spec = tie.close (tie.spec (λ c κs. search needs) returns returns-2)

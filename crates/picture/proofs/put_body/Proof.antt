@@ -15,32 +15,8 @@ abbrev μ-loop : tie.MeasureT-loop
 loop-holds : tie.Need-loop-holds Inv-loop μ-loop
 loop-holds c = (omega arith, written-start _ _ _ _)
 
-add-put-cell : tie.Need-add-put-cell Inv-loop μ-loop
-add-put-cell c = search needs
-
-cast-word : tie.Need-cast-word Inv-loop μ-loop
-cast-word c = search needs
-
-word-requires : tie.Need-word-requires Inv-loop μ-loop
-word-requires c κs = search needs
-
-put-cell-requires : tie.Need-put-cell-requires Inv-loop μ-loop
-put-cell-requires c κs = search needs
-
-add-k : tie.Need-add-k Inv-loop μ-loop
-add-k c = search needs
-
-loop-less : tie.Need-loop-less Inv-loop μ-loop
-loop-less c = search needs
-
 loop-again : tie.Need-loop-again Inv-loop μ-loop
 loop-again c = (omega arith, written-more _ _ _ _ _ _ (c .before .before .before .before .before .before .loop .k) _ (c .before .before .before .before .before .before .loop .inv .1) (c .before .before .before .word .ensures) (c .before .before .put-cell .ensures) (omega arith))
-
-put-cell-requires-2 : tie.Need-put-cell-requires-2 Inv-loop μ-loop
-put-cell-requires-2 c κs = search needs
-
-same-length : tie.Need-same-length Inv-loop μ-loop
-same-length c = search needs
 
 returns : tie.Need-returns Inv-loop μ-loop
 returns c = written-done _ _ _ _ _ _ (c .before .before .before .before .before .loop .k) _ (c .before .before .before .before .before .loop .inv .1) (c .before .before .put-cell2 .ensures) (c .before .before .before .before .before .loop .inv .0) (omega arith)
@@ -52,13 +28,13 @@ put-body-spec =
     Inv-loop
     μ-loop
     loop-holds
-    add-put-cell
-    cast-word
-    word-requires
-    put-cell-requires
-    add-k
-    loop-less
+    (λ c. search needs)
+    (λ c. search needs)
+    (λ c κs. search needs)
+    (λ c κs. search needs)
+    (λ c. search needs)
+    (λ c. search needs)
     loop-again
-    put-cell-requires-2
-    same-length
+    (λ c κs. search needs)
+    (λ c. search needs)
     returns)

@@ -17,23 +17,8 @@ abbrev μ-loop : tie.MeasureT-loop
 loop-holds : tie.Need-loop-holds Inv-loop μ-loop
 loop-holds c = (omega arith, anchors-start _ _ _ _)
 
-word-requires : tie.Need-word-requires Inv-loop μ-loop
-word-requires c κs = search needs
-
-anchor-mark-requires : tie.Need-anchor-mark-requires Inv-loop μ-loop
-anchor-mark-requires c κs = search needs
-
-add-i : tie.Need-add-i Inv-loop μ-loop
-add-i c = search needs
-
-loop-less : tie.Need-loop-less Inv-loop μ-loop
-loop-less c = search needs
-
 loop-again : tie.Need-loop-again Inv-loop μ-loop
 loop-again c = (omega arith, anchors-more _ _ _ _ _ _ (c .before .before .before .before .before .before .loop .i) _ (c .before .before .before .word .ensures) (c .before .before .before .before .before .before .loop .inv .1) (omega arith) (c .before .before .anchor-mark .ensures))
-
-same-length : tie.Need-same-length Inv-loop μ-loop
-same-length c = search needs
 
 returns : tie.Need-returns Inv-loop μ-loop
 returns c = anchors-done _ _ _ _ _ (c .before .loop .i) (c .before .loop .inv .1) (omega arith)
@@ -45,10 +30,10 @@ anchor-all-spec =
     Inv-loop
     μ-loop
     loop-holds
-    word-requires
-    anchor-mark-requires
-    add-i
-    loop-less
+    (λ c κs. search needs)
+    (λ c κs. search needs)
+    (λ c. search needs)
+    (λ c. search needs)
     loop-again
-    same-length
+    (λ c. search needs)
     returns)

@@ -15,29 +15,14 @@ Inv-loop w₀ caps rows t marks n f₀ w f = (f ≤ n) × Mends caps rows t mark
 abbrev μ-loop : tie.MeasureT-loop
 μ-loop w₀ caps rows t marks n f₀ w f = n - f
 
-facet-count-requires : tie.Need-facet-count-requires Inv-loop μ-loop
-facet-count-requires c κs = search needs
-
 loop-holds : tie.Need-loop-holds Inv-loop μ-loop
 loop-holds c = (omega arith, mends-start _ _ _ _ _)
-
-mend-facet-requires : tie.Need-mend-facet-requires Inv-loop μ-loop
-mend-facet-requires c κs = search needs
-
-add-f : tie.Need-add-f Inv-loop μ-loop
-add-f c = search needs
-
-loop-less : tie.Need-loop-less Inv-loop μ-loop
-loop-less c = search needs
 
 loop-again : tie.Need-loop-again Inv-loop μ-loop
 loop-again c = (
   omega arith,
   mends-more _ _ _ _ _ _ _ (c .before .before .before .before .before .loop .f) (c .before .before .before .before .before .loop .inv .1) (omega (arith, c .before .before .before .before .before .before .facet-count .ensures)) (c .before .before .mend-facet .ensures),
 )
-
-same-length : tie.Need-same-length Inv-loop μ-loop
-same-length c = search needs
 
 returns : tie.Need-returns Inv-loop μ-loop
 returns c = mends-done _ _ _ _ _ _ (c .before .loop .f) (c .before .loop .inv .1) (omega (arith, c .before .before .facet-count .ensures))
@@ -48,11 +33,11 @@ mend-all-spec =
     (tie.spec
     Inv-loop
     μ-loop
-    facet-count-requires
+    (λ c κs. search needs)
     loop-holds
-    mend-facet-requires
-    add-f
-    loop-less
+    (λ c κs. search needs)
+    (λ c. search needs)
+    (λ c. search needs)
     loop-again
-    same-length
+    (λ c. search needs)
     returns)

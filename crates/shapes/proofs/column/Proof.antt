@@ -14,24 +14,6 @@ returns-2 c = sym (entry-facet _ _ _ _ (c .before .if1 .left) (c .if2 .taken))
 returns-3 : tie.Need-returns-3
 returns-3 c = sym (entry-column _ _ _ _ (c .before .before .if1 .left) (c .before .if2 .left) (c .if3 .taken))
 
-mul-wide : tie.Need-mul-wide
-mul-wide c = search needs
-
-mul-wide-2 : tie.Need-mul-wide-2
-mul-wide-2 c = search needs
-
-index-1-wide : tie.Need-index-1-wide
-index-1-wide c = search needs
-
-index-2-wide : tie.Need-index-2-wide
-index-2-wide c = search needs
-
-index-3-wide : tie.Need-index-3-wide
-index-3-wide c = search needs
-
-wide-requires : tie.Need-wide-requires
-wide-requires c κs = search needs
-
 returns-4 : tie.Need-returns-4
 returns-4 c = c .wide .ensures ∙ sym (entry-in _ _ _ _ (c .before .before .before .before .if1 .left) (c .before .before .before .if2 .left) (c .before .before .if3 .left))
 
@@ -42,10 +24,10 @@ column-spec =
     returns
     returns-2
     returns-3
-    mul-wide
-    mul-wide-2
-    index-1-wide
-    index-2-wide
-    index-3-wide
-    wide-requires
+    (λ c. search needs)
+    (λ c. search needs)
+    (λ c. search needs)
+    (λ c. search needs)
+    (λ c. search needs)
+    (λ c κs. search needs)
     returns-4)

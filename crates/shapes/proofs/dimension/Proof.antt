@@ -7,12 +7,6 @@ use borrow.Author.Needs.{needs}
 use Rattle.shapes.proofs.dimension.Statement.{statement}
 use Rattle.shapes.proofs.dimension.Tie as tie
 
-array-read-wide : tie.Need-array-read-wide
-array-read-wide c = search needs
-
-wide-requires : tie.Need-wide-requires
-wide-requires c κs = search needs
-
 returns : tie.Need-returns
 unfolding noShape bar tri quad tetra shapes
 returns c = c .wide .ensures ∙ by-code (λ (s : Shape). s .dimension) (c .before .before .args .t)
@@ -22,4 +16,4 @@ unfolding noShape
 returns-2 c = sym (ap (λ (s : Shape). s .dimension) (no-code (c .before .args .t) (c .if1 .left)))
 
 pub dimension-spec : {M : Type 1} → statement M
-dimension-spec = tie.close (tie.spec array-read-wide wide-requires returns returns-2)
+dimension-spec = tie.close (tie.spec (λ c. search needs) (λ c κs. search needs) returns returns-2)

@@ -7,12 +7,6 @@ use borrow.Author.Needs.{needs}
 use Rattle.shapes.proofs.facet_count.Statement.{statement}
 use Rattle.shapes.proofs.facet_count.Tie as tie
 
-array-read-wide : tie.Need-array-read-wide
-array-read-wide c = search needs
-
-wide-requires : tie.Need-wide-requires
-wide-requires c κs = search needs
-
 returns : tie.Need-returns
 unfolding noShape bar tri quad tetra shapes facetCount
 returns c = c .wide .ensures ∙ by-code (λ (s : Shape). length (s .facets)) (c .before .before .args .t)
@@ -22,4 +16,4 @@ unfolding noShape facetCount
 returns-2 c = sym (ap (λ (s : Shape). length (s .facets)) (no-code (c .before .args .t) (c .if1 .left)))
 
 pub facet-count-spec : {M : Type 1} → statement M
-facet-count-spec = tie.close (tie.spec array-read-wide wide-requires returns returns-2)
+facet-count-spec = tie.close (tie.spec (λ c. search needs) (λ c κs. search needs) returns returns-2)

@@ -16,38 +16,8 @@ Inv-loop w₀ caps rows set halves n i₀ w i = (i ≤ n) × Step caps w₀ w (M
 abbrev μ-loop : tie.MeasureT-loop
 μ-loop w₀ caps rows set halves n i₀ w i = n - i
 
-slice-aggregate-sharers : tie.Need-slice-aggregate-sharers Inv-loop μ-loop
-slice-aggregate-sharers c = search needs
-
-sharers-requires : tie.Need-sharers-requires Inv-loop μ-loop
-sharers-requires c κs = search needs
-
 loop-holds : tie.Need-loop-holds Inv-loop μ-loop
 loop-holds c = (omega arith, mend-start _ _ _ _)
-
-add-next : tie.Need-add-next Inv-loop μ-loop
-add-next c = search needs
-
-slice-aggregate-word : tie.Need-slice-aggregate-word Inv-loop μ-loop
-slice-aggregate-word c = search needs
-
-cast-word : tie.Need-cast-word Inv-loop μ-loop
-cast-word c = search needs
-
-word-requires : tie.Need-word-requires Inv-loop μ-loop
-word-requires c κs = search needs
-
-slice-aggregate-word-2 : tie.Need-slice-aggregate-word-2 Inv-loop μ-loop
-slice-aggregate-word-2 c = search needs
-
-word-requires-2 : tie.Need-word-requires-2 Inv-loop μ-loop
-word-requires-2 c κs = search needs
-
-put-sibling-requires : tie.Need-put-sibling-requires Inv-loop μ-loop
-put-sibling-requires c κs = search needs
-
-loop-less : tie.Need-loop-less Inv-loop μ-loop
-loop-less c = search needs
 
 loop-again : tie.Need-loop-again Inv-loop μ-loop
 loop-again c =
@@ -58,9 +28,6 @@ loop-again c =
           (branch .before .loop-test .taken) (⊎-elim (λ a. inl (a .0 .taken, a .1)) (λ a. inr (a .0 .left, a .1)) (branch .if1 .came))
           (c .before .before .before .before .before .before .before .word .ensures) (c .before .before .before .before .word2 .ensures) (c .before .before .put-sibling .ensures),
     )
-
-same-length : tie.Need-same-length Inv-loop μ-loop
-same-length c = search needs
 
 returns : tie.Need-returns Inv-loop μ-loop
 returns c =
@@ -73,17 +40,17 @@ mend-spec =
     (tie.spec
     Inv-loop
     μ-loop
-    slice-aggregate-sharers
-    sharers-requires
+    (λ c. search needs)
+    (λ c κs. search needs)
     loop-holds
-    add-next
-    slice-aggregate-word
-    cast-word
-    word-requires
-    slice-aggregate-word-2
-    word-requires-2
-    put-sibling-requires
-    loop-less
+    (λ c. search needs)
+    (λ c. search needs)
+    (λ c. search needs)
+    (λ c κs. search needs)
+    (λ c. search needs)
+    (λ c κs. search needs)
+    (λ c κs. search needs)
+    (λ c. search needs)
     loop-again
-    same-length
+    (λ c. search needs)
     returns)

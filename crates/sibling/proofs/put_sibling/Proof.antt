@@ -7,18 +7,9 @@ use Rattle.sibling.proofs.put_sibling.Tie as tie
 returns : tie.Need-returns
 returns c = sibling-none _ _ _ _ (c .if1 .taken)
 
-add-put-cell : tie.Need-add-put-cell
-add-put-cell c = search needs
-
-put-cell-requires : tie.Need-put-cell-requires
-put-cell-requires c κs = search needs
-
-same-length : tie.Need-same-length
-same-length c = search needs
-
 returns-2 : tie.Need-returns-2
 returns-2 c = sibling-put _ _ _ _ _ (c .before .before .put-cell .ensures)
 
 pub put-sibling-spec : {M : Type 1} → statement M
 put-sibling-spec =
-    tie.close (tie.spec returns add-put-cell put-cell-requires same-length returns-2)
+    tie.close (tie.spec returns (λ c. search needs) (λ c κs. search needs) (λ c. search needs) returns-2)

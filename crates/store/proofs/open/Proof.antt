@@ -10,18 +10,9 @@ use Rattle.store.proofs.open.Tie as tie
 returns : tie.Need-returns
 returns c = sym (open-short _ (omega arith))
 
-word-requires : tie.Need-word-requires
-word-requires c κs = search needs
-
 returns-2 : tie.Need-returns-2
 unfolding room magic
 returns-2 c = sym (open-other _ (omega arith) (λ e. omega arith))
-
-word-requires-2 : tie.Need-word-requires-2
-word-requires-2 c κs = search needs
-
-word-requires-3 : tie.Need-word-requires-3
-word-requires-3 c κs = search needs
 
 returns-3 : tie.Need-returns-3
 unfolding room magic
@@ -30,24 +21,6 @@ returns-3 c = sym (open-marks _ (omega arith) (omega arith) (omega arith))
 returns-4 : tie.Need-returns-4
 unfolding room magic
 returns-4 c = sym (open-cells _ (omega arith) (omega arith) (omega arith) (omega arith))
-
-cast-if5 : tie.Need-cast-if5
-cast-if5 c = search needs
-
-mul-if5 : tie.Need-mul-if5
-mul-if5 c = search needs
-
-add-if5 : tie.Need-add-if5
-add-if5 c = search needs
-
-cast-if5-2 : tie.Need-cast-if5-2
-cast-if5-2 c = search needs
-
-mul-if5-2 : tie.Need-mul-if5-2
-mul-if5-2 c = search needs
-
-add-if5-2 : tie.Need-add-if5-2
-add-if5-2 c = search needs
 
 returns-5 : tie.Need-returns-5
 unfolding room magic
@@ -63,17 +36,17 @@ open-spec =
     tie.close
     (tie.spec
     returns
-    word-requires
+    (λ c κs. search needs)
     returns-2
-    word-requires-2
-    word-requires-3
+    (λ c κs. search needs)
+    (λ c κs. search needs)
     returns-3
     returns-4
-    cast-if5
-    mul-if5
-    add-if5
-    cast-if5-2
-    mul-if5-2
-    add-if5-2
+    (λ c. search needs)
+    (λ c. search needs)
+    (λ c. search needs)
+    (λ c. search needs)
+    (λ c. search needs)
+    (λ c. search needs)
     returns-5
     returns-6)

@@ -13,30 +13,6 @@ returns c = sym (cell-out _ _ _ _ _ (c .if1 .taken))
 returns-2 : tie.Need-returns-2
 returns-2 c = sym (cell-past _ _ _ _ _ (c .before .if1 .left) (c .if2 .taken))
 
-cast-put : tie.Need-cast-put
-cast-put c = search needs
-
-mul-put : tie.Need-mul-put
-mul-put c = search needs
-
-add-put : tie.Need-add-put
-add-put c = search needs
-
-mul-put-2 : tie.Need-mul-put-2
-mul-put-2 c = search needs
-
-add-put-2 : tie.Need-add-put-2
-add-put-2 c = search needs
-
-add-put-3 : tie.Need-add-put-3
-add-put-3 c = search needs
-
-put-requires : tie.Need-put-requires
-put-requires c κs = search needs
-
-same-length : tie.Need-same-length
-same-length c = search needs
-
 returns-3 : tie.Need-returns-3
 unfolding cellAt
 returns-3 c = c .before .before .put .ensures ∙ sym (cell-in _ _ _ _ _ (omega arith) (omega arith))
@@ -47,12 +23,12 @@ put-cell-spec =
     (tie.spec
     returns
     returns-2
-    cast-put
-    mul-put
-    add-put
-    mul-put-2
-    add-put-2
-    add-put-3
-    put-requires
-    same-length
+    (λ c. search needs)
+    (λ c. search needs)
+    (λ c. search needs)
+    (λ c. search needs)
+    (λ c. search needs)
+    (λ c. search needs)
+    (λ c κs. search needs)
+    (λ c. search needs)
     returns-3)

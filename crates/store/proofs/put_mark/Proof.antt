@@ -13,21 +13,6 @@ returns c = sym (mark-out _ _ _ _ _ (c .if1 .taken))
 returns-2 : tie.Need-returns-2
 returns-2 c = sym (mark-past _ _ _ _ _ (c .before .if1 .left) (c .if2 .taken))
 
-mul-put : tie.Need-mul-put
-mul-put c = search needs
-
-add-put : tie.Need-add-put
-add-put c = search needs
-
-add-put-2 : tie.Need-add-put-2
-add-put-2 c = search needs
-
-put-requires : tie.Need-put-requires
-put-requires c κs = search needs
-
-same-length : tie.Need-same-length
-same-length c = search needs
-
 returns-3 : tie.Need-returns-3
 unfolding markAt
 returns-3 c = c .before .before .put .ensures ∙ sym (mark-in _ _ _ _ _ (omega arith) (omega arith))
@@ -35,4 +20,4 @@ returns-3 c = c .before .before .put .ensures ∙ sym (mark-in _ _ _ _ _ (omega 
 pub put-mark-spec : {M : Type 1} → statement M
 put-mark-spec =
     tie.close
-    (tie.spec returns returns-2 mul-put add-put add-put-2 put-requires same-length returns-3)
+    (tie.spec returns returns-2 (λ c. search needs) (λ c. search needs) (λ c. search needs) (λ c κs. search needs) (λ c. search needs) returns-3)

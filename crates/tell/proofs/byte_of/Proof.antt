@@ -6,14 +6,8 @@ use borrow.Author.Needs.{needs}
 use Rattle.tell.proofs.byte_of.Statement.{statement}
 use Rattle.tell.proofs.byte_of.Tie as tie
 
-number-of-requires : tie.Need-number-of-requires
-number-of-requires c κs = search needs
-
-cast-result : tie.Need-cast-result
-cast-result c = search needs
-
 returns : tie.Need-returns
 returns c = ap (λ (n : ℕ). n % 256) (c .number-of .ensures) ∙ number-byte (c .before .args .why)
 
 pub byte-of-spec : {M : Type 1} → statement M
-byte-of-spec = tie.close (tie.spec number-of-requires cast-result returns)
+byte-of-spec = tie.close (tie.spec (λ c κs. search needs) (λ c. search needs) returns)

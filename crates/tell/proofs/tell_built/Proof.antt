@@ -6,15 +6,6 @@ use borrow.Author.Needs.{needs}
 use Rattle.tell.proofs.tell_built.Statement.{statement}
 use Rattle.tell.proofs.tell_built.Tie as tie
 
-enum-told : tie.Need-enum-told
-enum-told c = search needs
-
-enum-known-b : tie.Need-enum-known-b
-enum-known-b c = search needs
-
-byte-of-requires : tie.Need-byte-of-requires
-byte-of-requires c κs = search needs
-
 returns : tie.Need-returns
 unfolding builtSays
 returns c = told-none _ _ (ap builtSays (c .enum-told .given .1))
@@ -23,4 +14,4 @@ returns-2 : tie.Need-returns-2
 returns-2 c = built-refused _ _ _ _ _ (c .before .before .b .given .1) (c .byte-of .ensures)
 
 pub tell-built-spec : {M : Type 1} → statement M
-tell-built-spec = tie.close (tie.spec enum-told enum-known-b byte-of-requires returns returns-2)
+tell-built-spec = tie.close (tie.spec (λ c. search needs) (λ c. search needs) (λ c κs. search needs) returns returns-2)

@@ -6,18 +6,6 @@ use borrow.Author.Needs.{needs}
 use Rattle.tell.proofs.tell_found.Statement.{statement}
 use Rattle.tell.proofs.tell_found.Tie as tie
 
-enum-known-f : tie.Need-enum-known-f
-enum-known-f c = search needs
-
-byte-of-requires : tie.Need-byte-of-requires
-byte-of-requires c κs = search needs
-
-enum-told : tie.Need-enum-told
-enum-told c = search needs
-
-enum-known-f-2 : tie.Need-enum-known-f-2
-enum-known-f-2 c = search needs
-
 returns : tie.Need-returns
 unfolding foundSays
 returns c = found-refused _ _ _ _ _ (ap foundSays (c .before .before .f .given .1)) (c .byte-of .ensures)
@@ -33,4 +21,4 @@ returns-3 c = found-given _ _ _ _ (ap foundSays (c .before .f2 .given .1))
 pub tell-found-spec : {M : Type 1} → statement M
 tell-found-spec =
     tie.close
-    (tie.spec enum-known-f byte-of-requires enum-told enum-known-f-2 returns returns-2 returns-3)
+    (tie.spec (λ c. search needs) (λ c κs. search needs) (λ c. search needs) (λ c. search needs) returns returns-2 returns-3)

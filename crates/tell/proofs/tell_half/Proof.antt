@@ -6,15 +6,6 @@ use borrow.Author.Needs.{needs}
 use Rattle.tell.proofs.tell_half.Statement.{statement}
 use Rattle.tell.proofs.tell_half.Tie as tie
 
-enum-known-h : tie.Need-enum-known-h
-enum-known-h c = search needs
-
-byte-of-requires : tie.Need-byte-of-requires
-byte-of-requires c κs = search needs
-
-enum-known-h-2 : tie.Need-enum-known-h-2
-enum-known-h-2 c = search needs
-
 returns : tie.Need-returns
 unfolding halfSays
 returns c = told-refused _ _ _ _ (ap halfSays (c .before .before .h .given .1)) (c .byte-of .ensures)
@@ -25,4 +16,4 @@ returns-2 c = told-given _ _ _ (ap halfSays (c .before .h2 .given .1))
 
 pub tell-half-spec : {M : Type 1} → statement M
 tell-half-spec =
-    tie.close (tie.spec enum-known-h byte-of-requires enum-known-h-2 returns returns-2)
+    tie.close (tie.spec (λ c. search needs) (λ c κs. search needs) (λ c. search needs) returns returns-2)

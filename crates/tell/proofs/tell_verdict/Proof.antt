@@ -4,15 +4,6 @@ use borrow.Author.Needs.{needs}
 use Rattle.tell.proofs.tell_verdict.Statement.{statement}
 use Rattle.tell.proofs.tell_verdict.Tie as tie
 
-enum-told : tie.Need-enum-told
-enum-told c = search needs
-
-enum-known-v : tie.Need-enum-known-v
-enum-known-v c = search needs
-
-byte-of-requires : tie.Need-byte-of-requires
-byte-of-requires c κs = search needs
-
 returns : tie.Need-returns
 returns c = verdict-accepted _ (c .enum-told .given .1)
 
@@ -20,4 +11,4 @@ returns-2 : tie.Need-returns-2
 returns-2 c = verdict-refused _ _ _ (c .before .before .v .given .1) (c .byte-of .ensures)
 
 pub tell-verdict-spec : {M : Type 1} → statement M
-tell-verdict-spec = tie.close (tie.spec enum-told enum-known-v byte-of-requires returns returns-2)
+tell-verdict-spec = tie.close (tie.spec (λ c. search needs) (λ c. search needs) (λ c κs. search needs) returns returns-2)

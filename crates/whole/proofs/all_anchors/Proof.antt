@@ -21,17 +21,8 @@ abbrev μ-loop : tie.MeasureT-loop
 loop-holds : tie.Need-loop-holds Inv-loop μ-loop
 loop-holds c = (omega arith, sees-start _ _ _ _)
 
-anchors-ok-requires : tie.Need-anchors-ok-requires Inv-loop μ-loop
-anchors-ok-requires c κs = search needs
-
 returns : tie.Need-returns Inv-loop μ-loop
 returns c = sees-stop _ _ _ _ _ (c .before .before .before .before .loop .v) _ (omega arith) (c .before .anchors-ok .ensures) (not-true _ (c .if2 .taken))
-
-add-v : tie.Need-add-v Inv-loop μ-loop
-add-v c = search needs
-
-loop-less : tie.Need-loop-less Inv-loop μ-loop
-loop-less c = search needs
 
 loop-again : tie.Need-loop-again Inv-loop μ-loop
 loop-again c = (omega arith, sees-more _ _ _ _ _ (c .before .before .before .before .loop .v) _ (omega arith) (c .before .anchors-ok .ensures) (c .before .before .before .before .loop .inv .1) (not-false _ (c .if2 .left)))
@@ -46,9 +37,9 @@ all-anchors-spec =
     Inv-loop
     μ-loop
     loop-holds
-    anchors-ok-requires
+    (λ c κs. search needs)
     returns
-    add-v
-    loop-less
+    (λ c. search needs)
+    (λ c. search needs)
     loop-again
     returns-2)

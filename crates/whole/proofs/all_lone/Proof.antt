@@ -23,17 +23,8 @@ abbrev μ-loop : tie.MeasureT-loop
 loop-holds : tie.Need-loop-holds Inv-loop μ-loop
 loop-holds c = (omega arith, sees-start _ _ _ _)
 
-lone-requires : tie.Need-lone-requires Inv-loop μ-loop
-lone-requires c κs = search needs
-
 returns : tie.Need-returns Inv-loop μ-loop
 returns c = sees-stop _ _ _ _ _ (c .before .before .before .before .loop .c) _ (omega arith) (c .before .lone .ensures) (not-true _ (c .if2 .taken))
-
-add-c : tie.Need-add-c Inv-loop μ-loop
-add-c c = search needs
-
-loop-less : tie.Need-loop-less Inv-loop μ-loop
-loop-less c = search needs
 
 loop-again : tie.Need-loop-again Inv-loop μ-loop
 loop-again c = (omega arith, sees-more _ _ _ _ _ (c .before .before .before .before .loop .c) _ (omega arith) (c .before .lone .ensures) (c .before .before .before .before .loop .inv .1) (not-false _ (c .if2 .left)))
@@ -48,9 +39,9 @@ all-lone-spec =
     Inv-loop
     μ-loop
     loop-holds
-    lone-requires
+    (λ c κs. search needs)
     returns
-    add-c
-    loop-less
+    (λ c. search needs)
+    (λ c. search needs)
     loop-again
     returns-2)

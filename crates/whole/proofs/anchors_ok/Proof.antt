@@ -24,27 +24,9 @@ abbrev μ-loop : tie.MeasureT-loop
 loop-holds : tie.Need-loop-holds Inv-loop μ-loop
 loop-holds c = (omega arith, sees-start _ _ _ _)
 
-add-mark-word : tie.Need-add-mark-word Inv-loop μ-loop
-add-mark-word c = search needs
-
-mark-word-requires : tie.Need-mark-word-requires Inv-loop μ-loop
-mark-word-requires c κs = search needs
-
-add-first-anchor-of : tie.Need-add-first-anchor-of Inv-loop μ-loop
-add-first-anchor-of c = search needs
-
-first-anchor-of-requires : tie.Need-first-anchor-of-requires Inv-loop μ-loop
-first-anchor-of-requires c κs = search needs
-
 returns : tie.Need-returns Inv-loop μ-loop
 unfolding ancsRight
 returns c = sees-stop _ _ _ _ 3 (c .before .before .before .before .loop .d) _ (omega arith) (anchor-held _ _ _ _ _ (omega arith) _ _ (c .before .before .mark-word .ensures) (c .before .first-anchor-of .ensures)) (ne-eqb _ _ (c .if1 .taken))
-
-add-d : tie.Need-add-d Inv-loop μ-loop
-add-d c = search needs
-
-loop-less : tie.Need-loop-less Inv-loop μ-loop
-loop-less c = search needs
 
 loop-again : tie.Need-loop-again Inv-loop μ-loop
 loop-again c = (omega arith, sees-more _ _ _ _ 3 (c .before .before .before .before .loop .d) _ (omega arith) (anchor-held _ _ _ _ _ (omega arith) _ _ (c .before .before .mark-word .ensures) (c .before .first-anchor-of .ensures)) (c .before .before .before .before .loop .inv .1) (eq-eqb _ _ (c .if1 .left)))
@@ -60,12 +42,12 @@ anchors-ok-spec =
     Inv-loop
     μ-loop
     loop-holds
-    add-mark-word
-    mark-word-requires
-    add-first-anchor-of
-    first-anchor-of-requires
+    (λ c. search needs)
+    (λ c κs. search needs)
+    (λ c. search needs)
+    (λ c κs. search needs)
     returns
-    add-d
-    loop-less
+    (λ c. search needs)
+    (λ c. search needs)
     loop-again
     returns-2)

@@ -20,17 +20,8 @@ abbrev μ-loop : tie.MeasureT-loop
 loop-holds : tie.Need-loop-holds Inv-loop μ-loop
 loop-holds c = (omega arith, counted-start _ _ _)
 
-cell-word-requires : tie.Need-cell-word-requires Inv-loop μ-loop
-cell-word-requires c κs = search needs
-
 add-n : tie.Need-add-n Inv-loop μ-loop
 add-n c = omega (arith, counted-few _ _ _ (c .before .before .before .before .loop .c) (c .before .before .before .before .loop .n) (c .before .before .before .before .loop .inv .1))
-
-add-c : tie.Need-add-c Inv-loop μ-loop
-add-c c = search needs
-
-loop-less : tie.Need-loop-less Inv-loop μ-loop
-loop-less c = search needs
 
 loop-again : tie.Need-loop-again Inv-loop μ-loop
 loop-again c = (omega arith, ⊎-elim (λ b. counted-more _ _ _ (c .before .before .before .before .loop .c) (c .before .before .before .before .loop .n) _ _ (c .before .before .before .before .loop .inv .1) (c .before .cell-word .ensures) (b .0 .taken) (b .1)) (λ b. counted-same _ _ _ (c .before .before .before .before .loop .c) (c .before .before .before .before .loop .n) _ _ (c .before .before .before .before .loop .inv .1) (c .before .cell-word .ensures) (b .0 .left) (b .1)) (c .if2 .came))
@@ -45,9 +36,9 @@ count-spec =
     Inv-loop
     μ-loop
     loop-holds
-    cell-word-requires
+    (λ c κs. search needs)
     add-n
-    add-c
-    loop-less
+    (λ c. search needs)
+    (λ c. search needs)
     loop-again
     returns)

@@ -23,29 +23,8 @@ abbrev μ-loop : tie.MeasureT-loop
 loop-holds : tie.Need-loop-holds Inv-loop μ-loop
 loop-holds c = (omega arith, every-start _)
 
-cast-word : tie.Need-cast-word Inv-loop μ-loop
-cast-word c = search needs
-
-add-word : tie.Need-add-word Inv-loop μ-loop
-add-word c = search needs
-
-word-requires : tie.Need-word-requires Inv-loop μ-loop
-word-requires c κs = search needs
-
-add-count : tie.Need-add-count Inv-loop μ-loop
-add-count c = search needs
-
-count-requires : tie.Need-count-requires Inv-loop μ-loop
-count-requires c κs = search needs
-
 returns : tie.Need-returns Inv-loop μ-loop
 returns c = every-stop _ _ (c .before .before .before .before .loop .t) (omega arith) (count-no _ _ (c .before .before .before .before .loop .t) _ _ (c .before .before .word .ensures) (c .before .count .ensures) (c .if1 .taken))
-
-add-t : tie.Need-add-t Inv-loop μ-loop
-add-t c = search needs
-
-loop-less : tie.Need-loop-less Inv-loop μ-loop
-loop-less c = search needs
 
 loop-again : tie.Need-loop-again Inv-loop μ-loop
 loop-again c = (omega arith, every-more _ (c .before .before .before .before .loop .t) (c .before .before .before .before .loop .inv .1) (count-yes _ _ (c .before .before .before .before .loop .t) _ _ (c .before .before .word .ensures) (c .before .count .ensures) (c .if1 .left)))
@@ -60,13 +39,13 @@ counts-ok-spec =
     Inv-loop
     μ-loop
     loop-holds
-    cast-word
-    add-word
-    word-requires
-    add-count
-    count-requires
+    (λ c. search needs)
+    (λ c. search needs)
+    (λ c κs. search needs)
+    (λ c. search needs)
+    (λ c κs. search needs)
     returns
-    add-t
-    loop-less
+    (λ c. search needs)
+    (λ c. search needs)
     loop-again
     returns-2)

@@ -19,29 +19,14 @@ abbrev μ-loop : tie.MeasureT-loop
 loop-holds : tie.Need-loop-holds Inv-loop μ-loop
 loop-holds c = (omega arith, above-start _ _)
 
-cast-word : tie.Need-cast-word Inv-loop μ-loop
-cast-word c = search needs
-
-word-requires : tie.Need-word-requires Inv-loop μ-loop
-word-requires c κs = search needs
-
 returns : tie.Need-returns Inv-loop μ-loop
 returns c = after-found _ _ (c .before .before .before .loop .i) _ _ (c .before .before .before .loop .inv .1) (c .before .word .ensures) (c .if1 .taken) (omega arith)
-
-add-i : tie.Need-add-i Inv-loop μ-loop
-add-i c = search needs
-
-loop-less : tie.Need-loop-less Inv-loop μ-loop
-loop-less c = search needs
 
 loop-again : tie.Need-loop-again Inv-loop μ-loop
 loop-again c = (omega arith, above-more _ _ (c .before .before .before .loop .i) _ (c .before .before .before .loop .inv .1) (c .before .word .ensures) (c .if1 .left))
 
 returns-2 : tie.Need-returns-2 Inv-loop μ-loop
 returns-2 c = after-none _ _ (c .before .before .loop .i) _ (c .before .before .loop .inv .1) (c .before .before .loop .inv .0) (omega arith) (c .if2 .taken)
-
-word-requires-2 : tie.Need-word-requires-2 Inv-loop μ-loop
-word-requires-2 c κs = search needs
 
 returns-3 : tie.Need-returns-3 Inv-loop μ-loop
 returns-3 c = after-first _ _ (c .before .before .before .loop .i) _ _ (c .before .before .before .loop .inv .1) (c .before .before .before .loop .inv .0) (omega arith) (c .before .if2 .left) (c .word2 .ensures)
@@ -53,12 +38,12 @@ next-in-spec =
     Inv-loop
     μ-loop
     loop-holds
-    cast-word
-    word-requires
+    (λ c. search needs)
+    (λ c κs. search needs)
     returns
-    add-i
-    loop-less
+    (λ c. search needs)
+    (λ c. search needs)
     loop-again
     returns-2
-    word-requires-2
+    (λ c κs. search needs)
     returns-3)

@@ -22,28 +22,13 @@ Inv-loop w caps rows c n f₀ f = ((f ≤ n) × (n ≡ facetCount (codeIn w caps
 abbrev μ-loop : tie.MeasureT-loop
 μ-loop w caps rows c n f₀ f = n - f
 
-cell-word-requires : tie.Need-cell-word-requires Inv-loop μ-loop
-cell-word-requires c κs = search needs
-
-facet-count-requires : tie.Need-facet-count-requires Inv-loop μ-loop
-facet-count-requires c κs = search needs
-
 loop-holds : tie.Need-loop-holds Inv-loop μ-loop
 unfolding codeIn
 loop-holds c = ((omega arith, c .facet-count .ensures ∙ ap facetCount (c .before .cell-word .ensures)), sees-start _ _ _ _)
 
-sibling-ok-requires : tie.Need-sibling-ok-requires Inv-loop μ-loop
-sibling-ok-requires c κs = search needs
-
 returns : tie.Need-returns Inv-loop μ-loop
 unfolding sibsRight
 returns c = sees-stop _ _ _ _ _ (c .before .before .before .loop .f) _ (omega (arith, c .before .before .before .loop .inv .0 .1)) (c .before .sibling-ok .ensures) (not-true _ (c .if1 .taken))
-
-add-f : tie.Need-add-f Inv-loop μ-loop
-add-f c = search needs
-
-loop-less : tie.Need-loop-less Inv-loop μ-loop
-loop-less c = search needs
 
 loop-again : tie.Need-loop-again Inv-loop μ-loop
 loop-again c = ((omega arith, c .before .before .before .loop .inv .0 .1), sees-more _ _ _ _ _ (c .before .before .before .loop .f) _ (omega (arith, c .before .before .before .loop .inv .0 .1)) (c .before .sibling-ok .ensures) (c .before .before .before .loop .inv .1) (not-false _ (c .if1 .left)))
@@ -58,12 +43,12 @@ siblings-ok-spec =
     (tie.spec
     Inv-loop
     μ-loop
-    cell-word-requires
-    facet-count-requires
+    (λ c κs. search needs)
+    (λ c κs. search needs)
     loop-holds
-    sibling-ok-requires
+    (λ c κs. search needs)
     returns
-    add-f
-    loop-less
+    (λ c. search needs)
+    (λ c. search needs)
     loop-again
     returns-2)

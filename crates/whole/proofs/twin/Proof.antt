@@ -18,24 +18,9 @@ returns : tie.Need-returns
 unfolding twinIn
 returns c = and-no _ _ (ap not (eq-eqb _ _ (c .if1 .taken)))
 
-cell-word-requires : tie.Need-cell-word-requires
-cell-word-requires c κs = search needs
-
-cell-word-requires-2 : tie.Need-cell-word-requires-2
-cell-word-requires-2 c κs = search needs
-
 returns-2 : tie.Need-returns-2
 unfolding twinIn codeIn
 returns-2 c = and-yes _ _ _ (ap not (ne-eqb _ _ (c .before .before .before .if1 .left))) (rw (← c .before .before .cell-word .ensures, ← c .before .cell-word2 .ensures) (and-no _ _ (ne-eqb _ _ (c .if2 .taken))))
-
-marks-at-requires : tie.Need-marks-at-requires
-marks-at-requires c κs = search needs
-
-marks-at-requires-2 : tie.Need-marks-at-requires-2
-marks-at-requires-2 c κs = search needs
-
-same-set-requires : tie.Need-same-set-requires
-same-set-requires c κs = search needs
 
 returns-3 : tie.Need-returns-3
 unfolding twinIn codeIn
@@ -46,10 +31,10 @@ twin-spec =
     tie.close
     (tie.spec
     returns
-    cell-word-requires
-    cell-word-requires-2
+    (λ c κs. search needs)
+    (λ c κs. search needs)
     returns-2
-    marks-at-requires
-    marks-at-requires-2
-    same-set-requires
+    (λ c κs. search needs)
+    (λ c κs. search needs)
+    (λ c κs. search needs)
     returns-3)

@@ -15,47 +15,20 @@ use Rattle.whole.proofs.all_lone.Reads as all-lone-reads
 use Rattle.whole.proofs.all_siblings.Reads as all-siblings-reads
 use Rattle.whole.proofs.counts_ok.Reads as counts-ok-reads
 
-open-requires : tie.Need-open-requires
-open-requires c κs = search needs
-
-enum-known-caps : tie.Need-enum-known-caps
-enum-known-caps c = search needs
-
-enum-told : tie.Need-enum-told
-enum-told c = search needs
-
 returns : tie.Need-returns
 returns c = no-mesh _ (sym (c .enum-told .given .1) ∙ c .before .before .«open» .ensures)
-
-laid-requires : tie.Need-laid-requires
-laid-requires c κs = search needs
 
 returns-2 : tie.Need-returns-2
 returns-2 c = no-laid _ _ (sym (c .before .before .before .caps .given .1) ∙ c .before .before .before .before .before .«open» .ensures) (sym (c .before .laid .ensures) ∙ not-true _ (c .if1 .taken))
 
-all-lone-requires : tie.Need-all-lone-requires
-all-lone-requires c κs = search needs
-
 returns-3 : tie.Need-returns-3
 returns-3 c = no-lone _ _ (sym (c .before .before .before .before .before .caps .given .1) ∙ c .before .before .before .before .before .before .before .«open» .ensures) _ (c .before .all-lone .ensures) (not-true _ (c .if2 .taken))
-
-counts-ok-requires : tie.Need-counts-ok-requires
-counts-ok-requires c κs = search needs
 
 returns-4 : tie.Need-returns-4
 returns-4 c = no-counts _ _ (sym (c .before .before .before .before .before .before .before .caps .given .1) ∙ c .before .before .before .before .before .before .before .before .before .«open» .ensures) (sym (c .before .counts-ok .ensures) ∙ not-true _ (c .if3 .taken))
 
-facet-table-requires : tie.Need-facet-table-requires
-facet-table-requires c κs = search needs
-
-all-siblings-requires : tie.Need-all-siblings-requires
-all-siblings-requires c κs = search needs
-
 returns-5 : tie.Need-returns-5
 returns-5 c = no-siblings _ _ (sym (c .before .before .before .before .before .before .before .before .before .before .before .caps .given .1) ∙ c .before .before .before .before .before .before .before .before .before .before .before .before .before .«open» .ensures) _ (c .before .before .before .facet-table .ensures) _ (c .before .all-siblings .ensures) (not-true _ (c .if4 .taken))
-
-all-anchors-requires : tie.Need-all-anchors-requires
-all-anchors-requires c κs = search needs
 
 returns-6 : tie.Need-returns-6
 returns-6 c = passed _ _ (sym (c .before .before .before .before .before .before .before .before .before .before .before .before .before .caps .given .1) ∙ c .before .before .before .before .before .before .before .before .before .before .before .before .before .before .before .«open» .ensures) _ (c .before .before .before .before .before .facet-table .ensures) (sym (c .before .before .before .before .before .before .before .before .before .before .before .laid .ensures) ∙ not-false _ (c .before .before .before .before .before .before .before .before .before .before .if1 .left)) _ _ _ (c .before .before .before .before .before .before .before .before .before .all-lone .ensures) (not-false _ (c .before .before .before .before .before .before .before .before .if2 .left)) (sym (c .before .before .before .before .before .before .before .counts-ok .ensures) ∙ not-false _ (c .before .before .before .before .before .before .if3 .left)) (c .before .before .before .all-siblings .ensures) (not-false _ (c .before .before .if4 .left)) (c .all-anchors .ensures)
@@ -64,18 +37,18 @@ pub whole-spec : {M : Type 1} → statement M
 whole-spec =
     tie.close
     (tie.spec
-    open-requires
-    enum-known-caps
-    enum-told
+    (λ c κs. search needs)
+    (λ c. search needs)
+    (λ c. search needs)
     returns
-    laid-requires
+    (λ c κs. search needs)
     returns-2
-    all-lone-requires
+    (λ c κs. search needs)
     returns-3
-    counts-ok-requires
+    (λ c κs. search needs)
     returns-4
-    facet-table-requires
-    all-siblings-requires
+    (λ c κs. search needs)
+    (λ c κs. search needs)
     returns-5
-    all-anchors-requires
+    (λ c κs. search needs)
     returns-6)
