@@ -6,32 +6,34 @@ ghost use mathlib.Core.Path.{_≡_};
 ghost use lib.ListN.{getD};
 ghost use Rattle.lists.specs.Lists.{any, listOf};
 ghost use Rattle.map.specs.Answers.{insertChecks};
+ghost use Rattle.map.specs.Cells.{bodyOf};
 ghost use Rattle.checks.specs.Checked.{Checked};
 ghost use Rattle.admit.specs.Admit.{sameIn, fullIn, Same};
 use chain::gather;
+use facet::marks_at;
 use lists::reaches;
 use lists::repeats;
 use lists::same_set;
 use map::Refusal;
 use map::Verdict;
 use numbers::Caps;
+use numbers::Cell;
 use numbers::MOST_AROUND;
+use numbers::Mark;
 use shapes::dimension;
 use shapes::mark_count;
-use store::cell_word;
-use store::mark_word;
-use words::part;
+use store::code_of;
+use store::held_of;
 use words::word;
 
 // The cell's record is of the type, with the same set of marks.
-fn same_record(w: &[u32], caps: Caps, t: u32, marks: &[u32], c: u32) -> bool
-    ensures { λ r. ⌜ r ≡ sameIn (now (w .entry)) caps t (now (marks .entry)) c ⌝ }
+fn same_record(w: &[u32], caps: Caps, c: Cell, t: u32, marks: &[u32]) -> bool
+    ensures { λ r. ⌜ r ≡ sameIn (now (w .entry)) caps t (now (marks .entry)) (c .0) ⌝ }
 {
-    if cell_word(w, caps, c, 0) != t {
+    if code_of(w, caps, c) != t {
         return false;
     }
-    let at = 16 + 8 * (caps.marks as usize) + 16 * (c as usize) + 1;
-    same_set(part(w, at, mark_count(t) as usize), marks)
+    same_set(marks_at(w, caps, c), marks)
 }
 
 // Whether one of the first n cells is of the type, with the same set of marks.
@@ -40,7 +42,7 @@ fn one_same(w: &[u32], caps: Caps, t: u32, marks: &[u32], cells: &[u32], n: u32)
 {
     let mut i: u32 = 0;
     while i < n {
-        if same_record(w, caps, t, marks, word(cells, i as usize)) {
+        if same_record(w, caps, Cell(word(cells, i as usize)), t, marks) {
             return true;
         }
         i += 1;
@@ -53,17 +55,17 @@ pub fn same_cell(w: &[u32], caps: Caps, t: u32, marks: &[u32]) -> bool
     ensures { λ r. ⌜ Same (now (w .entry)) caps t (now (marks .entry)) r ⌝ }
 {
     let mut cells = [0u32; MOST_AROUND as usize];
-    let n = gather(w, caps, word(marks, 0), &mut cells);
+    let n = gather(w, caps, Mark(word(marks, 0)), &mut cells);
     one_same(w, caps, t, marks, &cells, n)
 }
 
 // Whether one of the marks stands in 128 live cells already.
-pub fn full_mark(w: &[u32], marks: &[u32]) -> bool
-    ensures { λ r. ⌜ r ≡ any (fullIn (now (w .entry))) (now (marks .entry)) ⌝ }
+pub fn full_mark(w: &[u32], caps: Caps, marks: &[u32]) -> bool
+    ensures { λ r. ⌜ r ≡ any (fullIn (now (w .entry)) caps) (now (marks .entry)) ⌝ }
 {
     let mut i = 0;
     while i < marks.len() {
-        if MOST_AROUND <= mark_word(w, marks[i], 1) {
+        if MOST_AROUND <= held_of(w, caps, Mark(marks[i])) {
             return true;
         }
         i += 1;
@@ -72,13 +74,13 @@ pub fn full_mark(w: &[u32], marks: &[u32]) -> bool
 }
 
 // The checks of an insert.
-pub fn check_insert(w: &[u32], caps: Caps, c: u32, t: u32, marks: &[u32]) -> Verdict
-    ensures { λ r. ⌜ Checked (now (w .entry)) caps (λ m. insertChecks m c t (now (marks .entry))) r ⌝ }
+pub fn check_insert(w: &[u32], caps: Caps, c: Cell, t: u32, marks: &[u32]) -> Verdict
+    ensures { λ r. ⌜ Checked (now (w .entry)) caps (λ m. insertChecks m (c .0) (bodyOf t (now (marks .entry)))) r ⌝ }
 {
-    if caps.cells <= c {
+    if caps.cells <= c.0 {
         return Verdict::Refused(Refusal::CellOutside);
     }
-    if cell_word(w, caps, c, 0) != 0 {
+    if code_of(w, caps, c) != 0 {
         return Verdict::Refused(Refusal::CellLive);
     }
     if dimension(t) == 0 {
@@ -96,7 +98,7 @@ pub fn check_insert(w: &[u32], caps: Caps, c: u32, t: u32, marks: &[u32]) -> Ver
     if same_cell(w, caps, t, marks) {
         return Verdict::Refused(Refusal::CellSame);
     }
-    if full_mark(w, marks) {
+    if full_mark(w, caps, marks) {
         return Verdict::Refused(Refusal::MarkFull);
     }
     Verdict::Accepted

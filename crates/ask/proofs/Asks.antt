@@ -1,22 +1,17 @@
 -- A query: no mesh; a mesh refused by a row of checks; a mesh, and the value read.
 use mathlib.Core.Path.{_≡_, refl, sym, ap, _∙_}
-use mathlib.Core.Bool.{Bool, true, false, cond}
-use mathlib.Core.List.{List, [], _∷_}
-use Prim.Native.Nat.{ℕ, _+_, _<_}
-use lib.ListN.{getD}
+use mathlib.Core.List.{List}
+use Prim.Native.Nat.{ℕ}
 use Rattle.lists.proofs.Bools.{clash}
 use Rattle.numbers.specs.declared.Caps.{Caps}
 use Rattle.store.specs.declared.Opened.the-variants.{Mesh, Nothing}
-use Rattle.store.specs.Layout.{cellAt}
-use Rattle.store.specs.Slots.{isMesh}
 use Rattle.store.specs.Open.{opened}
 use Rattle.map.specs.Cells.{Map}
 use Rattle.map.specs.Answers.{Check, Answer, answer}
-use Rattle.map.specs.Paper.{given, refused, verdictSays}
+use Rattle.map.specs.Says.{given, refused, verdictSays}
 use Rattle.map.specs.declared.Refusal.{Refusal}
 use Rattle.map.specs.declared.Verdict.{Verdict}
 use Rattle.map.specs.declared.Verdict.the-variants.{Accepted, Refused}
-use Rattle.picture.specs.State.{capsOf}
 use Rattle.picture.specs.Picture.{Wf}
 use Rattle.checks.specs.Checked.{Checked}
 use Rattle.checks.proofs.Values.{Numbered, refused-values, given-values}
@@ -27,7 +22,7 @@ module _ {A : Type 0} (says : A → Answer) (noMesh : A) (w : List ℕ) (answers
   pub asked-none : Nothing ≡ opened w → Asked says noMesh w answers noMesh
   asked-none e = record { refused = λ _. refl; answers = λ m wf. absurd (clash (wf-mesh w m wf) (nothing-opened w e)) }
 
-  pub asked-mesh : (r : A) (caps : Caps) → Mesh caps ≡ opened w → ((m : Map) → capsOf m ≡ caps → Wf w m → says r ≡ answers m)
+  pub asked-mesh : (r : A) (caps : Caps) → Mesh caps ≡ opened w → ((m : Map) → m .caps ≡ caps → Wf w m → says r ≡ answers m)
       → Asked says noMesh w answers r
   asked-mesh r caps e f = record {
     refused = λ no. absurd (clash (mesh-opened w caps e .0) no);
@@ -46,7 +41,7 @@ module _ {A : Type 0} (says : A → Answer) (noMesh : A) (w : List ℕ) (caps : 
 
   -- accepted, and the values given
   pub asked-given : (r : A) (verdict : Verdict) → Checked w caps checks verdict → verdict ≡ Accepted → ((m : Map) → Numbered (checks m))
-      → ((m : Map) → capsOf m ≡ caps → Wf w m → says r ≡ given (values m)) → Asked says noMesh w (λ m. answer (checks m) (values m)) r
+      → ((m : Map) → m .caps ≡ caps → Wf w m → says r ≡ given (values m)) → Asked says noMesh w (λ m. answer (checks m) (values m)) r
   unfolding verdictSays
   asked-given r verdict k v n q =
       asked-mesh says noMesh w (λ m. answer (checks m) (values m)) r caps opens

@@ -1,23 +1,23 @@
 -- Each query from its checks and the word that it reads.
 use mathlib.Core.Path.{_≡_, refl, sym, ap, _∙_}
-use mathlib.Core.Bool.{Bool, true, false, cond}
+use mathlib.Core.Bool.{false, cond}
 use mathlib.Core.List.{List, [], _∷_}
-use Prim.Native.Nat.{ℕ, zero, suc, _+_, _-_, _*_, _/_, _%_, _<_, _≤_}
+use Prim.Native.Nat.{ℕ, suc, _-_, _/_, _%_, _<_}
 use native.Mathlib.Omega.{arith}
-use lib.ListN.{getD, length, take}
-use Rattle.lists.proofs.Bools.{clash, not-true-false}
+use lib.ListN.{length, take}
+use Rattle.lists.proofs.Bools.{not-true-false}
 use Rattle.numbers.specs.declared.Half.{Half}
 use Rattle.numbers.specs.Half.{halfOf}
 use Rattle.numbers.specs.declared.Caps.{Caps}
-use Rattle.store.specs.declared.Opened.the-variants.{Mesh, Nothing}
-use Rattle.store.specs.Layout.{markAt, cellAt}
-use Rattle.store.specs.Slots.{isMesh}
+use Rattle.store.specs.declared.Opened.the-variants.{Mesh}
+use Rattle.store.specs.Fields.{Count, Anchor, Sib}
+use Rattle.store.specs.Slots.{InHead, InMark, InCell, read, codeIn}
 use Rattle.store.specs.Open.{opened}
 use Rattle.map.specs.Cells.{Map, cellsOf}
 use Rattle.map.specs.Siblings.{sibling, border}
 use Rattle.map.specs.Stars.{anchors}
-use Rattle.map.specs.Answers.{Answer, cellChecks, halfChecks, starChecks, typeChecks, typeAnswer, siblingAnswer, borderAnswer, firstAnchorAnswer, countAnswer, stepAnswer}
-use Rattle.map.specs.Paper.{given, refused, valueSays, halfSays, truthSays, foundSays, stepSays}
+use Rattle.map.specs.Answers.{cellChecks, halfChecks, starChecks, typeChecks, typeAnswer, siblingAnswer, borderAnswer, firstAnchorAnswer, countAnswer, stepAnswer}
+use Rattle.map.specs.Says.{given, refused, valueSays, halfSays, truthSays, foundSays}
 use Rattle.map.specs.declared.Refusal.{Refusal}
 use Rattle.map.specs.declared.Refusal.the-variants.{NotMesh}
 use Rattle.map.specs.declared.Value.the-variants as Value
@@ -25,16 +25,17 @@ use Rattle.map.specs.declared.HalfAt.{HalfAt}
 use Rattle.map.specs.declared.HalfAt.the-variants as HalfAt′
 use Rattle.map.specs.declared.Truth.the-variants as Truth
 use Rattle.map.specs.declared.Found.the-variants as Found
-use Rattle.map.specs.declared.Step.the-variants as Step
 use Rattle.map.specs.declared.Verdict.{Verdict}
 use Rattle.map.specs.declared.Verdict.the-variants.{Accepted, Refused}
 use Rattle.laws.proofs.Cycles.{border-self, self-border}
-use Rattle.picture.specs.State.{next, capsOf}
+use Rattle.picture.specs.State.{next}
 use Rattle.picture.specs.Picture.{Wf}
 use Rattle.checks.specs.Checked.{Checked}
-use Rattle.checks.proofs.Rows.{marks-of, cells-of, code-of}
+use Rattle.checks.proofs.Rows.{cells-of, code-of}
 use Rattle.checks.proofs.Passed.{cell-numbered, half-numbered, star-numbered, type-numbered, cell-passed, half-passed, star-passed, type-passed}
+use Rattle.ask.specs.declared.Step.the-variants as Step
 use Rattle.ask.specs.Asked.{Asked}
+use Rattle.ask.specs.Steps.{stepSays}
 use Rattle.ask.specs.Refusals.{noValue, noHalf, noTruth, noFound, noStep}
 use Rattle.ask.proofs.Asks.{asked-refused, asked-given}
 use Rattle.ask.proofs.Words.{half-is, uncut-is, sibling-is, anchor-is, count-is}
@@ -57,7 +58,7 @@ module _ (w : List ℕ) (caps : Caps) (opens : Mesh caps ≡ opened w) (verdict 
     type-refused why v =
         asked-refused valueSays noValue w caps (λ m. cellChecks m c) (λ m. m .at c .code ∷ []) opens (Value.Refused why) why verdict checked v refl
 
-    pub type-given : verdict ≡ Accepted → (t : ℕ) → t ≡ getD w (cellAt (caps .marks) c + 0) 0 → Asked valueSays noValue w (λ m. typeAnswer m c) (Value.Is t)
+    pub type-given : verdict ≡ Accepted → (t : ℕ) → t ≡ codeIn w caps c → Asked valueSays noValue w (λ m. typeAnswer m c) (Value.Is t)
     unfolding typeAnswer valueSays
     type-given v t word =
         asked-given valueSays noValue w caps (λ m. cellChecks m c) (λ m. m .at c .code ∷ []) opens (Value.Is t) verdict checked v (λ m. cell-numbered m c)
@@ -77,38 +78,44 @@ module _ (w : List ℕ) (caps : Caps) (opens : Mesh caps ≡ opened w) (verdict 
         asked-refused truthSays noTruth w caps (λ m. halfChecks m c f) (λ m. cond (border m (halfOf c f)) 1 0 ∷ []) opens (Truth.Refused why) why verdict checked v
         refl
 
-    module _ (v : verdict ≡ Accepted) (x : ℕ) (word : x ≡ getD w (cellAt (caps .marks) c + (5 + f)) 0) where
-      led : (m : Map) (e : capsOf m ≡ caps) (wf : Wf w m) → x ≡ sibling m (halfOf c f)
+    module _ (v : verdict ≡ Accepted) (y : ℕ) (half : y ≡ halfOf (c % 65536) (f % 8)) (h : Half) (word : h .0 ≡ read w caps (InCell (y / 8) (Sib (y % 8)))) where
+      -- the half-facet that was asked for
+      place : (m : Map) (e : m .caps ≡ caps) (wf : Wf w m) → y ≡ halfOf c f
+      place m e wf =
+          let p = half-passed w caps verdict v m e wf c f checked in
+          half ∙ uncut-is w caps m e wf c f (p .0) (p .2)
+
+      led : (m : Map) (e : m .caps ≡ caps) (wf : Wf w m) → h .0 ≡ sibling m (halfOf c f)
       led m e wf =
           let p = half-passed w caps verdict v m e wf c f checked in
-          word ∙ sibling-is w caps m e wf c f (p .0) (p .2)
+          word ∙ (ap (λ (k : ℕ). read w caps (InCell (k / 8) (Sib (k % 8)))) (place m e wf) ∙ sibling-is w caps m e wf c f (p .0) (p .2))
 
-      pub sibling-given : (h : Half) → h .0 ≡ x → Asked halfSays noHalf w (λ m. siblingAnswer m c f) (HalfAt′.At h)
+      pub sibling-given : Asked halfSays noHalf w (λ m. siblingAnswer m c f) (HalfAt′.At h)
       unfolding siblingAnswer halfSays
-      sibling-given h q =
+      sibling-given =
           asked-given halfSays noHalf w caps (λ m. halfChecks m c f) (λ m. sibling m (halfOf c f) ∷ []) opens (HalfAt′.At h) verdict checked v
-          (λ m. half-numbered m c f) (λ m e wf. ap (λ (n : ℕ). given (n ∷ [])) (q ∙ led m e wf))
+          (λ m. half-numbered m c f) (λ m e wf. ap (λ (n : ℕ). given (n ∷ [])) (led m e wf))
 
       -- its own sibling: a border
-      pub border-yes : (y : ℕ) → y ≡ halfOf (c % 65536) (f % 8) → x ≡ y → Asked truthSays noTruth w (λ m. borderAnswer m c f) Truth.Yes
+      pub border-yes : h .0 ≡ y → Asked truthSays noTruth w (λ m. borderAnswer m c f) Truth.Yes
       unfolding borderAnswer truthSays
-      border-yes y half same =
+      border-yes same =
           asked-given truthSays noTruth w caps (λ m. halfChecks m c f) (λ m. cond (border m (halfOf c f)) 1 0 ∷ []) opens Truth.Yes verdict checked v
           (λ m. half-numbered m c f)
           (λ m e wf.
           let p = half-passed w caps verdict v m e wf c f checked in
-          let own : sibling m (halfOf c f) ≡ halfOf c f = sym (led m e wf) ∙ (same ∙ (half ∙ uncut-is w caps m e wf c f (p .0) (p .2))) in
+          let own : sibling m (halfOf c f) ≡ halfOf c f = sym (led m e wf) ∙ (same ∙ place m e wf) in
           rw (self-border m (halfOf c f) (half-is w caps m e wf c f (p .0) (p .2)) own))
 
-      pub border-no : (y : ℕ) → y ≡ halfOf (c % 65536) (f % 8) → (x ≡ y → ⊥) → Asked truthSays noTruth w (λ m. borderAnswer m c f) Truth.No
+      pub border-no : (h .0 ≡ y → ⊥) → Asked truthSays noTruth w (λ m. borderAnswer m c f) Truth.No
       unfolding borderAnswer truthSays
-      border-no y half other =
+      border-no other =
           asked-given truthSays noTruth w caps (λ m. halfChecks m c f) (λ m. cond (border m (halfOf c f)) 1 0 ∷ []) opens Truth.No verdict checked v
           (λ m. half-numbered m c f)
           (λ m e wf.
           let p = half-passed w caps verdict v m e wf c f checked in
           let none : border m (halfOf c f) ≡ false = not-true-false (border m (halfOf c f)) (λ b.
-          other (led m e wf ∙ (border-self m (halfOf c f) (half-is w caps m e wf c f (p .0) (p .2)) b ∙ sym (half ∙ uncut-is w caps m e wf c f (p .0) (p .2))))) in
+          other (led m e wf ∙ (border-self m (halfOf c f) (half-is w caps m e wf c f (p .0) (p .2)) b ∙ sym (place m e wf)))) in
           rw none)
 
   module _ (d v : ℕ) (checked : Checked w caps (λ m. starChecks m d v) verdict) where
@@ -117,8 +124,8 @@ module _ (w : List ℕ) (caps : Caps) (opens : Mesh caps ≡ opened w) (verdict 
     anchor-refused why q =
         asked-refused foundSays noFound w caps (λ m. starChecks m d v) (λ m. take 1 (anchors m d v)) opens (Found.Refused why) why verdict checked q refl
 
-    module _ (ok : verdict ≡ Accepted) (x : ℕ) (word : x ≡ getD w (markAt v + (1 + d)) 0) where
-      first-word : (m : Map) (e : capsOf m ≡ caps) (wf : Wf w m) → x ≡ next (anchors m d v)
+    module _ (ok : verdict ≡ Accepted) (x : ℕ) (word : x ≡ read w caps (InMark v (Anchor d))) where
+      first-word : (m : Map) (e : m .caps ≡ caps) (wf : Wf w m) → x ≡ next (anchors m d v)
       first-word m e wf =
           let p = star-passed w caps verdict ok m e wf d v checked in
           word ∙ anchor-is w caps m e wf d v (p .0) (p .1) (p .2)
@@ -142,7 +149,7 @@ module _ (w : List ℕ) (caps : Caps) (opens : Mesh caps ≡ opened w) (verdict 
     count-refused why q =
         asked-refused valueSays noValue w caps (λ m. typeChecks t) (λ m. length (cellsOf m t) ∷ []) opens (Value.Refused why) why verdict checked q refl
 
-    pub count-given : verdict ≡ Accepted → (x : ℕ) → x ≡ getD w (4 + t) 0 → Asked valueSays noValue w (λ m. countAnswer m t) (Value.Is x)
+    pub count-given : verdict ≡ Accepted → (x : ℕ) → x ≡ read w caps (InHead (Count t)) → Asked valueSays noValue w (λ m. countAnswer m t) (Value.Is x)
     unfolding countAnswer valueSays
     count-given ok x word =
         asked-given valueSays noValue w caps (λ m. typeChecks t) (λ m. length (cellsOf m t) ∷ []) opens (Value.Is x) verdict checked ok

@@ -3,3 +3,4 @@ pub mod Asks
 pub mod Words
 pub mod Calls
 pub mod Marks
+pub mod Steps

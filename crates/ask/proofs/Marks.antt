@@ -2,35 +2,34 @@
 use mathlib.Core.Path.{_≡_, refl, sym, ap, _∙_}
 use mathlib.Core.Bool.{Bool, true, false, cond}
 use mathlib.Core.List.{List, [], _∷_}
-use Prim.Native.Nat.{ℕ, zero, suc, _+_, _*_, _<_, _≤_}
+use Prim.Native.Nat.{ℕ, _+_, _<_, _≤_}
 use native.Mathlib.Omega.{arith}
-use borrow.Author.Tests.{eq-eqb, ne-eqb, le-leb}
+use borrow.Author.Tests.{ne-eqb, le-leb, leb-true}
 use denote.Ref.{RefT, now}
-use lib.Dec.{eqb}
-use lib.ListN.{getD, length}
+use lib.Dec.{eqb, leb}
+use lib.ListN.{length, take, drop}
 use Rattle.lists.proofs.Bools.{clash}
-use Rattle.words.specs.Words.{partOf, Part}
+use Rattle.words.specs.Words.{BeginsAt, partOf, Part}
 use Rattle.words.proofs.Fits.{part-fits}
 use Rattle.shapes.specs.Shapes.{shape}
 use Rattle.numbers.specs.declared.Caps.{Caps}
 use Rattle.store.specs.declared.Opened.the-variants.{Mesh, Nothing}
-use Rattle.store.specs.Layout.{room, cellAt}
-use Rattle.store.specs.Slots.{isMesh}
-use Rattle.store.specs.Open.{opened}
-use Rattle.map.specs.Cells.{Map}
+use Rattle.store.specs.Slots.{codeIn, marksAt}
+use Rattle.store.specs.Open.{isMesh, opened}
+use Rattle.map.specs.Cells.{Map, live, dimensionAt}
 use Rattle.map.specs.Answers.{Answer, answer, cellChecks, typeAnswer, marksPart}
-use Rattle.map.specs.Paper.{numberOf, given, refused, verdictSays}
+use Rattle.map.specs.Says.{numberOf, given, refused, verdictSays}
 use Rattle.map.specs.declared.Refusal.{Refusal}
 use Rattle.map.specs.declared.Verdict.{Verdict}
 use Rattle.map.specs.declared.Verdict.the-variants.{Accepted, Refused}
-use Rattle.picture.specs.State.{capsOf, stateOf}
 use Rattle.picture.specs.Picture.{Wf}
-use Rattle.shapes.proofs.Today.{four-marks}
-use Rattle.sibling.proofs.Part.{marks-read}
-use Rattle.picture.proofs.Settles.{wf-pic}
+use Rattle.shapes.proofs.Types.{type-marks}
+use Rattle.facet.specs.Facet.{MarksAt, marksIn}
+use Rattle.facet.proofs.Copy.{marks-words}
 use Rattle.checks.specs.Checked.{Checked}
-use Rattle.checks.proofs.Rows.{marks-of, cells-of, code-of}
-use Rattle.checks.proofs.Values.{number-some, refused-values, given-values}
+use Rattle.checks.proofs.Rows.{cells-of, code-of, marks-in}
+use Rattle.map.proofs.Refusals.{number-some}
+use Rattle.checks.proofs.Values.{refused-values, given-values}
 use Rattle.checks.proofs.Passed.{cell-numbered, cell-passed}
 use Rattle.checks.proofs.Opens.{nothing-opened, mesh-opened, wf-mesh, wf-caps}
 use Rattle.ask.specs.Asked.{Handed, HandedMarks}
@@ -38,6 +37,15 @@ use Rattle.ask.specs.Asked.{Handed, HandedMarks}
 -- a refusal's number is not 0
 some-number : (why : Refusal) → eqb (numberOf why) 0 ≡ false
 some-number why = ne-eqb (numberOf why) 0 (λ z. omega (arith, number-some why))
+
+-- a part with a word in it lies in memory
+part-there : (w : List ℕ) (at n : ℕ) → 0 < length (partOf w at n) → at + n ≤ length w
+unfolding partOf
+part-there w at n = go (leb (at + n) (length w)) refl
+  where
+    go : (b : Bool) → leb (at + n) (length w) ≡ b → 0 < length (cond b (take n (drop at w)) []) → at + n ≤ length w
+    go true e some = leb-true (at + n) (length w) e
+    go false e some = absurd (omega arith)
 
 -- no part
 part-zero : (w : List ℕ) → partOf w 0 0 ≡ []
@@ -63,27 +71,35 @@ module _ (w : List ℕ) (caps : Caps) (opens : Mesh caps ≡ opened w) (c : ℕ)
   }
 
   module _ (v : verdict ≡ Accepted) where
-    -- the corners of the record, as many as the type has marks
-    corners : (m : Map) → capsOf m ≡ caps → Wf w m → partOf w (cellAt (caps .marks) c + 1) (length (m .at c .marks)) ≡ m .at c .marks
-    unfolding stateOf
-    corners m e wf =
-        marks-read w caps (stateOf m) (wf-pic w caps m e wf) c (omega (arith, cell-passed w caps verdict v m e wf c checked .0, cells-of caps m e))
-        (omega (arith, wf .sound .fitting c, four-marks (m .at c .code)))
-
-    handed-marks : (t n : ℕ) → t ≡ getD w (cellAt (caps .marks) c + 0) 0 → n ≡ shape t .marks → (r : List ℕ)
-        → r ≡ partOf w (cellAt (caps .marks) c + 1) n → Handed w (λ m. marksPart m c) r
-    unfolding marksPart typeAnswer verdictSays given
-    handed-marks t n word count r q = record {
+    handed-marks : (r : List ℕ) → r ≡ marksIn w caps c → Handed w (λ m. marksPart m c) r
+    unfolding marksPart typeAnswer verdictSays given marksIn
+    handed-marks r q = record {
       refused = λ none. absurd (mesh none);
       answers = λ m wf.
           let e = wf-caps w m wf caps opens in
           let a : given (m .at c .code ∷ []) ≡ answer (cellChecks m c) (m .at c .code ∷ []) =
           given-values (cellChecks m c) (m .at c .code ∷ []) (cell-numbered m c) (ap verdictSays (sym v) ∙ checked .says m e wf) in
           let below : c < caps .cells = omega (arith, cell-passed w caps verdict v m e wf c checked .0, cells-of caps m e) in
-          let code : t ≡ m .at c .code = word ∙ code-of caps m e w wf c below in
-          let size : n ≡ length (m .at c .marks) = count ∙ (ap (λ (k : ℕ). shape k .marks) code ∙ sym (wf .sound .fitting c)) in
-          (q ∙ (ap (partOf w (cellAt (caps .marks) c + 1)) size ∙ corners m e wf)) ∙ rw (← a);
+          (q ∙ marks-in caps m e w wf c below) ∙ rw (← a);
     }
+
+-- where the marks of a live cell begin
+marks-begin : (w r : RefT (List ℕ)) (caps : Caps) (m : Map) → m .caps ≡ caps → Wf (now w) m → (c : ℕ) → c < caps .cells → live m c ≡ true
+    → MarksAt w caps c r → BeginsAt w (marksAt (m .caps) c (length (m .at c .marks))) r
+unfolding dimensionAt
+marks-begin w r caps m e wf c below alive q = rw (e, ← size) (simp (le-leb _ _ there) at (q .part .begins))
+  where
+    n : ℕ
+    n = shape (codeIn (now w) caps c) .marks
+
+    size : n ≡ length (m .at c .marks)
+    size = ap (λ (t : ℕ). shape t .marks) (code-of caps m e (now w) wf c below) ∙ sym (wf .sound .fitting c)
+
+    some : 0 < length (m .at c .marks)
+    some = rw (wf .sound .fitting c) (type-marks (m .at c .code) (wf .sound .typed c alive))
+
+    there : marksAt caps c n + n ≤ length (now w)
+    there = part-there (now w) (marksAt caps c n) n (rw (marks-in caps m e (now w) wf c below) some)
 
 -- the same of references: the part that is handed back lies where the marks are stored
 module _ (w r : RefT (List ℕ)) (c : ℕ) where
@@ -105,14 +121,11 @@ module _ (w r : RefT (List ℕ)) (c : ℕ) where
           absurd (omega (arith, number-some why, ap (λ (k : Answer). k .refusal) a, accepted));
     }
 
-    pub marks-given : verdict ≡ Accepted → (t n : ℕ) → t ≡ getD (now w) (cellAt (caps .marks) c + 0) 0 → n ≡ shape t .marks
-        → Part w (cellAt (caps .marks) c + 1) n r → HandedMarks w c r
-    unfolding room cellAt capsOf
-    marks-given v t n word count q = record {
-      marks = handed-marks (now w) caps opens c verdict checked v t n word count (now r) (q .words);
+    pub marks-given : verdict ≡ Accepted → MarksAt w caps c r → HandedMarks w c r
+    marks-given v q = record {
+      marks = handed-marks (now w) caps opens c verdict checked v (now r) (marks-words w caps c r q);
       begins = λ m wf accepted.
           let e = wf-caps (now w) m wf caps opens in
-          let below : c < caps .cells = omega (arith, cell-passed (now w) caps verdict v m e wf c checked .0, cells-of caps m e) in
-          let fits : cellAt (caps .marks) c + 1 + n ≤ length (now w) = omega (arith, wf .picture .fits, marks-of caps m e, cells-of caps m e, four-marks t, count) in
-          rw (marks-of caps m e) (simp (le-leb _ _ fits) at (q .begins));
+          let p = cell-passed (now w) caps verdict v m e wf c checked in
+          marks-begin w r caps m e wf c (omega (arith, p .0, cells-of caps m e)) (p .1) q;
     }

@@ -1,64 +1,63 @@
 -- What the words of well-formed memory are, where the queries read them.
-use mathlib.Core.Path.{_≡_, refl, sym, ap, _∙_, subst}
-use mathlib.Core.Bool.{Bool, true, false, cond}
-use mathlib.Core.List.{List, [], _∷_}
-use Prim.Native.Nat.{ℕ, zero, suc, _+_, _*_, _/_, _%_, _<_, _≤_}
-use native.Mathlib.Decide.{decLt}
+use mathlib.Core.Path.{_≡_, _∙_}
+use Prim.Native.Nat.{ℕ, _/_, _%_, _<_, _≤_}
 use native.Mathlib.Omega.{arith}
-use lib.ListN.{getD, length}
+use lib.ListN.{length, length-map}
+use mathlib.Core.List.{List}
 use Rattle.numbers.specs.Half.{halfOf}
-use Rattle.numbers.proofs.Inverse.{half-uncut}
-use Rattle.shapes.proofs.Today.{four-facets, four-types}
+use Rattle.numbers.proofs.Inverse.{half-cell, half-facet as facet-part, half-uncut}
+use Rattle.shapes.proofs.Facts.{facts}
+use Rattle.shapes.proofs.Types.{type-code}
 use Rattle.shapes.specs.Shapes.{shape, facetCount}
 use Rattle.numbers.specs.declared.Caps.{Caps}
-use Rattle.store.specs.Layout.{markAt, cellAt, Head, Mark, Cell, address}
+use Rattle.store.specs.Fields.{Count, Anchor, Sib}
+use Rattle.store.specs.Slots.{InHead, InMark, InCell, read}
 use Rattle.map.specs.Cells.{Map, facetsAt, cellsOf}
-use Rattle.map.specs.Siblings.{isHalf, Half, sibling}
+use Rattle.map.specs.Siblings.{Half, sibling}
 use Rattle.map.specs.Stars.{anchors}
 use Rattle.laws.proofs.Anchors.{half-facet}
 use Rattle.laws.proofs.Halves.{half-live}
-use Rattle.picture.specs.State.{next, capsOf, stateOf}
-use Rattle.picture.specs.Picture.{wordOf, Wf}
-use Rattle.picture.proofs.Writers.{anchor-word, count-word}
-use Rattle.sibling.proofs.OnPicture.{facets-count}
-use Rattle.sibling.proofs.OneWord.{sibling-slot}
+use Rattle.picture.specs.State.{next, stateOf}
+use Rattle.picture.specs.Picture.{Wf}
+use Rattle.picture.proofs.Record.{count-read, anchor-read, sib-read}
+use Rattle.picture.proofs.Settles.{wf-pic}
 use Rattle.checks.proofs.Rows.{marks-of, cells-of}
 
-module _ (w : List ℕ) (caps : Caps) (m : Map) (e : capsOf m ≡ caps) (wf : Wf w m) where
-  module _ (c f : ℕ) (hc : c < m .cells) (hf : f < facetCount (m .at c .code)) where
+module _ (w : List ℕ) (caps : Caps) (m : Map) (e : m .caps ≡ caps) (wf : Wf w m) where
+  module _ (c f : ℕ) (hc : c < m .caps .cells) (hf : f < facetCount (m .at c .code)) where
     facet-below : f < length (facetsAt m c)
-    unfolding facetCount
-    facet-below = omega (arith, facets-count m c)
+    unfolding facetCount facetsAt
+    facet-below = rw length-map hf
 
-    facet-four : f < 4
+    facet-few : f < 6
     unfolding facetCount
-    facet-four = omega (arith, four-facets (m .at c .code))
+    facet-few = omega (arith, facts (m .at c .code) .facets)
 
     -- the number is that of a live half-facet
     pub half-is : Half m (halfOf c f)
     unfolding halfOf
-    half-is = half-live m (wf .sound) (8 * c + f) (half-facet m c f facet-below .1)
+    half-is = half-live m (wf .sound) (halfOf c f) (half-facet m c f facet-below .1)
 
     -- nothing of it is cut off
     pub uncut-is : halfOf (c % 65536) (f % 8) ≡ halfOf c f
-    unfolding capsOf
-    uncut-is = half-uncut c f (omega (arith, wf .picture .cells)) (omega (arith, facet-four))
+    uncut-is = half-uncut c f (omega (arith, wf .picture .cells)) (omega (arith, facet-few))
 
-    -- the word of a facet is its sibling
-    pub sibling-is : getD w (cellAt (caps .marks) c + (5 + f)) 0 ≡ sibling m (halfOf c f)
-    unfolding capsOf stateOf address halfOf
+    -- the word of a half-facet is its sibling
+    pub sibling-is : read w caps (InCell (halfOf c f / 8) (Sib (halfOf c f % 8))) ≡ sibling m (halfOf c f)
+    unfolding stateOf
     sibling-is =
-        rw (← marks-of caps m e)
-        (wf .picture .words (Cell c (5 + f)) (hc, omega (arith, facet-four))
-        ∙ (sibling-slot (capsOf m) (stateOf m) c f facet-four ∙ rw (half-facet m c f facet-below .1)))
+        sib-read w caps (stateOf m) (wf-pic w caps m e wf) (halfOf c f)
+        (omega (arith, half-cell c f (omega (arith, facet-few)), cells-of caps m e)) (omega (arith, facet-part c f (omega (arith, facet-few)), facet-few))
+        ∙ rw (half-is .facet)
 
   -- the word of a mark is its first anchor
-  pub anchor-is : (d v : ℕ) → 1 ≤ d → d ≤ 3 → v < m .marks → getD w (markAt v + (1 + d)) 0 ≡ next (anchors m d v)
-  unfolding capsOf stateOf address
-  anchor-is d v low high hv =
-      wf .picture .words (Mark v (1 + d)) (hv, omega arith) ∙ anchor-word (capsOf m) (stateOf m) d v 0 v d low high
+  pub anchor-is : (d v : ℕ) → 1 ≤ d → d ≤ 3 → v < m .caps .marks → read w caps (InMark v (Anchor d)) ≡ next (anchors m d v)
+  unfolding stateOf
+  anchor-is d v low high hv = anchor-read w caps (stateOf m) (wf-pic w caps m e wf) d v (omega (arith, marks-of caps m e)) low high
 
   -- the word of a type is its count
-  pub count-is : (t : ℕ) → (shape t .dimension ≡ 0 → ⊥) → getD w (4 + t) 0 ≡ length (cellsOf m t)
-  unfolding address stateOf
-  count-is t some = wf .picture .words (Head (4 + t)) (omega (arith, four-types t (omega arith))) ∙ count-word (capsOf m) (stateOf m) t 0 (four-types t (omega arith) .0) (four-types t (omega arith) .1)
+  pub count-is : (t : ℕ) → (shape t .dimension ≡ 0 → ⊥) → read w caps (InHead (Count t)) ≡ length (cellsOf m t)
+  unfolding stateOf
+  count-is t some =
+      let code = type-code t (omega (arith, some)) in
+      count-read w caps (stateOf m) (wf-pic w caps m e wf) t (code .0) (code .1)

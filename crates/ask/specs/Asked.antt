@@ -2,11 +2,12 @@
 use mathlib.Core.Path.{_≡_}
 use mathlib.Core.Bool.{false}
 use mathlib.Core.List.{List, []}
-use Prim.Native.Nat.{ℕ, _+_}
+use Prim.Native.Nat.{ℕ}
 use denote.Ref.{RefT, now}
+use lib.ListN.{length}
 use Rattle.words.specs.Words.{BeginsAt}
-use Rattle.store.specs.Layout.{cellAt}
-use Rattle.store.specs.Slots.{isMesh}
+use Rattle.store.specs.Slots.{marksAt}
+use Rattle.store.specs.Open.{isMesh}
 use Rattle.map.specs.Cells.{Map}
 use Rattle.map.specs.Answers.{Answer, typeAnswer, marksPart}
 use Rattle.picture.specs.Picture.{Wf}
@@ -20,7 +21,7 @@ pub record Handed (w : List ℕ) (part : Map → List ℕ) (r : List ℕ) : Type
   pub refused : isMesh w ≡ false → r ≡ []
   pub answers : (m : Map) → Wf w m → r ≡ part m
 
--- "handed back as the very part of mesh memory that stores it": the marks of a cell, behind the type in its record
+-- "handed back as the very part of mesh memory that stores it": the marks of a cell, where its record has them side by side
 pub record HandedMarks (w : RefT (List ℕ)) (c : ℕ) (r : RefT (List ℕ)) : Type 0 where
   pub marks : Handed (now w) (λ m. marksPart m c) (now r)
-  pub begins : (m : Map) → Wf (now w) m → typeAnswer m c .refusal ≡ 0 → BeginsAt w (cellAt (m .marks) c + 1) r
+  pub begins : (m : Map) → Wf (now w) m → typeAnswer m c .refusal ≡ 0 → BeginsAt w (marksAt (m .caps) c (length (m .at c .marks))) r

@@ -8,8 +8,8 @@ use Rattle.map.specs.declared.Truth.{Truth}
 use Rattle.map.specs.declared.Truth.the-variants as Truth′
 use Rattle.map.specs.declared.Found.{Found}
 use Rattle.map.specs.declared.Found.the-variants as Found′
-use Rattle.map.specs.declared.Step.{Step}
-use Rattle.map.specs.declared.Step.the-variants as Step′
+use Rattle.ask.specs.declared.Step.{Step}
+use Rattle.ask.specs.declared.Step.the-variants as Step′
 
 abbrev pub noValue : Value
 noValue = Value′.Refused NotMesh

@@ -1,41 +1,37 @@
 // The queries that read a word: type and marks of a cell, sibling, border, first anchor, count of a type, a walker's step.
 //
-// What is here: the public calls, none with a `requires`. What is proved: memory that is no mesh is refused with 14; on well-formed
-// memory the answer, with its refusals in the listed order, is that of crates/map/specs/Answers.antt (specs/Asked.antt). What a caller
-// should know: each costs a few words read, whatever the size of the mesh.
-ghost use mathlib.Core.Path.{_≡_};
-ghost use Prim.Native.Nat.{_+_};
-ghost use lib.ListN.{getD};
-ghost use Rattle.store.specs.Layout.{markAt, cellAt};
+// What is here: the public calls, none with a `requires`, and the walker. What is proved: memory that is no mesh is refused with 14; on
+// well-formed memory the answer, with its refusals in the listed order, is that of crates/map/specs/Answers.antt (specs/Asked.antt). What a
+// caller should know: each costs a few words read, whatever the size of the mesh.
 ghost use Rattle.map.specs.Answers.{typeAnswer, siblingAnswer, borderAnswer, firstAnchorAnswer, countAnswer, stepAnswer};
-ghost use Rattle.map.specs.Paper.{valueSays, halfSays, truthSays, foundSays, stepSays};
+ghost use Rattle.map.specs.Says.{valueSays, halfSays, truthSays, foundSays};
 ghost use Rattle.ask.specs.Asked.{Asked, HandedMarks};
+ghost use Rattle.ask.specs.Steps.{stepSays};
 ghost use Rattle.ask.specs.Refusals.{noValue, noHalf, noTruth, noFound, noStep};
 use checks::check_cell;
 use checks::check_half;
 use checks::check_star;
 use checks::check_type;
+use facet::marks_at;
 use map::Found;
 use map::HalfAt;
 use map::Refusal;
-use map::Step;
 use map::Truth;
 use map::Value;
 use map::Verdict;
-use map::Walker;
-use numbers::Caps;
 use numbers::Cell;
 use numbers::Half;
 use numbers::Mark;
 use numbers::cell_of;
 use numbers::facet_of;
 use numbers::half_of;
-use shapes::mark_count;
 use store::Opened;
-use store::cell_word;
+use store::anchor_of;
+use store::code_of;
+use store::count_of;
 use store::open;
+use store::sibling_of;
 use words::part;
-use words::word;
 
 // The type of a cell.
 pub fn type_of(w: &[u32], c: Cell) -> Value
@@ -44,10 +40,9 @@ pub fn type_of(w: &[u32], c: Cell) -> Value
     let Opened::Mesh(caps) = open(w) else {
         return Value::Refused(Refusal::NotMesh);
     };
-    let n = c.0;
-    match check_cell(w, caps, n) {
+    match check_cell(w, caps, c) {
         Verdict::Refused(why) => Value::Refused(why),
-        Verdict::Accepted => Value::Is(cell_word(w, caps, n, 0)),
+        Verdict::Accepted => Value::Is(code_of(w, caps, c)),
     }
 }
 
@@ -58,33 +53,10 @@ pub fn marks_of(w: &[u32], c: Cell) -> &[u32]
     let Opened::Mesh(caps) = open(w) else {
         return part(w, 0, 0);
     };
-    let n = c.0;
-    if let Verdict::Refused(_) = check_cell(w, caps, n) {
+    if let Verdict::Refused(_) = check_cell(w, caps, c) {
         return part(w, 0, 0);
     }
-    let count = mark_count(cell_word(w, caps, n, 0));
-    part(
-        w,
-        16 + 8 * (caps.marks as usize) + 16 * (n as usize) + 1,
-        count as usize,
-    )
-}
-
-// The word that holds a facet's sibling.
-fn sibling_word(w: &[u32], caps: Caps, c: u32, f: u32) -> u32
-    ensures { λ r. ⌜ r ≡ getD (now (w .entry)) (cellAt (caps .marks) c + (5 + f)) 0 ⌝ }
-{
-    word(
-        w,
-        16 + 8 * (caps.marks as usize) + 16 * (c as usize) + (5 + (f as usize)),
-    )
-}
-
-// The word that holds a mark's first anchor in a dimension.
-fn anchor_word(w: &[u32], d: u32, v: u32) -> u32
-    ensures { λ r. ⌜ r ≡ getD (now (w .entry)) (markAt v + (1 + d)) 0 ⌝ }
-{
-    word(w, 16 + 8 * (v as usize) + (1 + (d as usize)))
+    marks_at(w, caps, c)
 }
 
 // The sibling of a half-facet.
@@ -94,10 +66,9 @@ pub fn sibling(w: &[u32], c: Cell, f: u32) -> HalfAt
     let Opened::Mesh(caps) = open(w) else {
         return HalfAt::Refused(Refusal::NotMesh);
     };
-    let n = c.0;
-    match check_half(w, caps, n, f) {
+    match check_half(w, caps, c, f) {
         Verdict::Refused(why) => HalfAt::Refused(why),
-        Verdict::Accepted => HalfAt::At(Half(sibling_word(w, caps, n, f))),
+        Verdict::Accepted => HalfAt::At(sibling_of(w, caps, half_of(c, f))),
     }
 }
 
@@ -108,11 +79,11 @@ pub fn border(w: &[u32], c: Cell, f: u32) -> Truth
     let Opened::Mesh(caps) = open(w) else {
         return Truth::Refused(Refusal::NotMesh);
     };
-    let n = c.0;
-    match check_half(w, caps, n, f) {
+    match check_half(w, caps, c, f) {
         Verdict::Refused(why) => Truth::Refused(why),
         Verdict::Accepted => {
-            if sibling_word(w, caps, n, f) == half_of(c, f).0 {
+            let h = half_of(c, f);
+            if sibling_of(w, caps, h).0 == h.0 {
                 Truth::Yes
             } else {
                 Truth::No
@@ -128,11 +99,10 @@ pub fn first_anchor(w: &[u32], d: u32, v: Mark) -> Found
     let Opened::Mesh(caps) = open(w) else {
         return Found::Refused(Refusal::NotMesh);
     };
-    let n = v.0;
-    if let Verdict::Refused(why) = check_star(w, caps, d, n) {
+    if let Verdict::Refused(why) = check_star(w, caps, d, v) {
         return Found::Refused(why);
     }
-    let x = anchor_word(w, d, n);
+    let x = anchor_of(w, caps, d, v);
     if x == 0 {
         return Found::Nothing;
     }
@@ -148,19 +118,27 @@ pub fn count_of_type(w: &[u32], t: u32) -> Value
     };
     match check_type(w, caps, t) {
         Verdict::Refused(why) => Value::Refused(why),
-        Verdict::Accepted => Value::Is(word(w, 4 + (t as usize))),
+        Verdict::Accepted => Value::Is(count_of(w, caps, t)),
     }
 }
 
-// A walker's step: the next place of its cycle as it is now, or the refusal for its half-facet.
-pub fn step(at: Walker, w: &[u32]) -> Step
-    ensures { λ r. ⌜ Asked stepSays noStep (now (w .entry)) (λ m. stepAnswer m (at .0 .0)) r ⌝ }
-{
-    let h = at.0;
-    let c = cell_of(h);
-    let f = facet_of(h);
-    match sibling(w, c, f) {
-        HalfAt::Refused(why) => Step::Refused(why),
-        HalfAt::At(next) => Step::Next(Walker(next)),
+// A walker over one sibling cycle: its place.
+pub struct Walker(pub Half);
+
+// A walker's step: the walker at the next place, or why there is none.
+pub enum Step {
+    Next(Walker),
+    Refused(Refusal),
+}
+
+impl Walker {
+    // The next place of the cycle as it is now, or the refusal for the half-facet.
+    pub fn step(self, w: &[u32]) -> Step
+        ensures { λ r. ⌜ Asked stepSays noStep (now (w .entry)) (λ m. stepAnswer m (self .0 .0)) r ⌝ }
+    {
+        match sibling(w, cell_of(self.0), facet_of(self.0)) {
+            HalfAt::Refused(why) => Step::Refused(why),
+            HalfAt::At(next) => Step::Next(Walker(next)),
+        }
     }
 }

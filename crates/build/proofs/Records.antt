@@ -10,6 +10,7 @@ use lib.Seq.{take-all, drop-cons, drop-drop}
 use Rattle.words.specs.Words.{partOf}
 use Rattle.words.proofs.Fits.{part-fits}
 use Rattle.shapes.specs.Shapes.{shape}
+use Rattle.map.specs.Cells.{bodyOf}
 use Rattle.map.specs.History.{Insert}
 use Rattle.map.specs.declared.Refusal.the-variants.{CountWrong}
 use Rattle.map.specs.declared.Verdict.{Verdict}
@@ -86,7 +87,7 @@ module _ (w records : List ℕ) (at end : ℕ) where
 
   pub record-made : (c t i k n : ℕ) (marks : List ℕ) → at + 2 ≤ end → c ≡ getD records at 0 → t ≡ getD records i 0 → i ≡ at + 1
       → marks ≡ partOf records k n → k ≡ at + 2 → n ≡ end - 2 - at
-      → (r : Verdict) (w′ : List ℕ) → Edited w (Insert c t marks) r w′ → Recorded w records at end r w′
+      → (r : Verdict) (w′ : List ℕ) → Edited w (Insert c (bodyOf t marks)) r w′ → Recorded w records at end r w′
   unfolding between
   record-made c t i k n marks long ec et ei em ek en r w′ edited =
       record { short = λ l. absurd (omega arith); whole = λ l. rw (← en, ← ek, ← em, ← ei, ← et, ← ec) edited }

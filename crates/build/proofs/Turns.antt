@@ -7,37 +7,38 @@ use native.Mathlib.Omega.{arith}
 use borrow.Author.Tests.{ne-eqb}
 use lib.ListN.{take, drop}
 use Rattle.shapes.specs.Shapes.{shape}
-use Rattle.map.specs.History.{Mesh, mapIn, empty, Insert, editAnswer, made, buildFrom}
-use Rattle.map.specs.Paper.{numberOf}
+use Rattle.map.specs.Cells.{bodyOf, Map}
+use Rattle.map.specs.History.{empty, Insert, editAnswer, changed, buildFrom}
+use Rattle.map.specs.Says.{numberOf}
 use Rattle.map.specs.declared.Refusal.{Refusal}
-use Rattle.checks.proofs.Values.{number-some}
+use Rattle.map.proofs.Refusals.{number-some}
 
-module _ (place : ℕ) (m : Mesh) where
+module _ (place : ℕ) (m : Map) where
   -- no word left
-  pub turn-end : (n : ℕ) → buildFrom n place m [] ≡ record { refusal = 0; place = 0; mesh = m }
+  pub turn-end : (n : ℕ) → buildFrom n place m [] ≡ record { refusal = 0; place = 0; map = m }
   unfolding buildFrom
   turn-end zero = refl
   turn-end (suc n) = refl
 
   -- one word left
-  pub turn-one : (n : ℕ) → 1 ≤ n → (c : ℕ) → buildFrom n place m (c ∷ []) ≡ record { refusal = 7; place = place; mesh = empty (m .marks) (m .cells) }
+  pub turn-one : (n : ℕ) → 1 ≤ n → (c : ℕ) → buildFrom n place m (c ∷ []) ≡ record { refusal = 7; place = place; map = empty (m .caps) }
   unfolding buildFrom
   turn-one zero h c = absurd (omega arith)
   turn-one (suc n) h c = refl
 
   -- a record that is accepted, and one that is refused
   module _ (c t : ℕ) (rest : List ℕ) where
-    pub turn-made : (n : ℕ) → 1 ≤ n → editAnswer (mapIn m) (Insert c t (take (shape t .marks) rest)) .refusal ≡ 0
+    pub turn-made : (n : ℕ) → 1 ≤ n → editAnswer m (Insert c (bodyOf t (take (shape t .marks) rest))) .refusal ≡ 0
         → buildFrom n place m (c ∷ t ∷ rest)
-        ≡ buildFrom (n - 1) (place + 1) (made m (Insert c t (take (shape t .marks) rest))) (drop (shape t .marks) rest)
+        ≡ buildFrom (n - 1) (place + 1) (changed m (Insert c (bodyOf t (take (shape t .marks) rest)))) (drop (shape t .marks) rest)
     unfolding buildFrom
     turn-made zero h e = absurd (omega arith)
     turn-made (suc n) h e =
         let less : suc n - 1 ≡ n = omega arith in
         rw (less, add-one place, e, buildFrom)
 
-    pub turn-refused : (n : ℕ) → 1 ≤ n → (why : Refusal) → numberOf why ≡ editAnswer (mapIn m) (Insert c t (take (shape t .marks) rest)) .refusal
-        → buildFrom n place m (c ∷ t ∷ rest) ≡ record { refusal = numberOf why; place = place; mesh = empty (m .marks) (m .cells) }
+    pub turn-refused : (n : ℕ) → 1 ≤ n → (why : Refusal) → numberOf why ≡ editAnswer m (Insert c (bodyOf t (take (shape t .marks) rest))) .refusal
+        → buildFrom n place m (c ∷ t ∷ rest) ≡ record { refusal = numberOf why; place = place; map = empty (m .caps) }
     unfolding buildFrom
     turn-refused zero h why e = absurd (omega arith)
     turn-refused (suc n) h why e = rw (← e, buildFrom, ne-eqb (numberOf why) 0 (λ z. omega (arith, number-some why))) (rw (← e))

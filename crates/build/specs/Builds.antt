@@ -6,10 +6,11 @@ use Prim.Native.Nat.{ℕ, _<_}
 use lib.Dec.{eqb}
 use lib.ListN.{length}
 use Rattle.numbers.specs.Room.{room}
+use Rattle.numbers.specs.declared.Caps.{Caps}
 use Rattle.words.specs.Words.{Only}
 use Rattle.map.specs.Answers.{Answer, answer, formatChecks}
-use Rattle.map.specs.History.{mapIn, build}
-use Rattle.map.specs.Paper.{builtSays}
+use Rattle.map.specs.History.{build}
+use Rattle.map.specs.Says.{builtSays}
 use Rattle.map.specs.declared.Built.{Built}
 use Rattle.picture.specs.Picture.{Wf}
 
@@ -17,19 +18,19 @@ use Rattle.picture.specs.Picture.{Wf}
 unfoldable pub placed : ℕ → ℕ → Answer
 placed refusal place = record { refusal = refusal; values = cond (eqb refusal 0) [] (place ∷ []) }
 
-unfoldable pub formatRefusal : ℕ → ℕ → ℕ → ℕ
-formatRefusal words marks cells = answer (formatChecks words marks cells) [] .refusal
+unfoldable pub formatRefusal : ℕ → Caps → ℕ
+formatRefusal words caps = answer (formatChecks words caps) [] .refusal
 
 -- "Build does format, then inserts in order."
-unfoldable pub buildAnswer : ℕ → ℕ → ℕ → List ℕ → Answer
-buildAnswer words marks cells records =
-    cond (eqb (formatRefusal words marks cells) 0) (placed (build marks cells records .refusal) (build marks cells records .place))
-    (placed (formatRefusal words marks cells) 0)
+unfoldable pub buildAnswer : ℕ → Caps → List ℕ → Answer
+buildAnswer words caps records =
+    cond (eqb (formatRefusal words caps) 0) (placed (build caps records .refusal) (build caps records .place))
+    (placed (formatRefusal words caps) 0)
 
-pub record Builds (w : List ℕ) (marks cells : ℕ) (records : List ℕ) (r : Built) (w′ : List ℕ) : Type 0 where
-  pub says : builtSays r ≡ buildAnswer (length w) marks cells records
+pub record Builds (w : List ℕ) (caps : Caps) (records : List ℕ) (r : Built) (w′ : List ℕ) : Type 0 where
+  pub says : builtSays r ≡ buildAnswer (length w) caps records
   -- "Refusals 1 and 2 .. change nothing"
-  pub kept : (formatRefusal (length w) marks cells ≡ 0 → ⊥) → w′ ≡ w
-  pub inside : Only (λ i. i < room marks cells) w w′
+  pub kept : (formatRefusal (length w) caps ≡ 0 → ⊥) → w′ ≡ w
+  pub inside : Only (λ i. i < room (caps .marks) (caps .cells)) w w′
   -- the built mesh, or the formatted mesh with no live cell
-  pub wf : formatRefusal (length w) marks cells ≡ 0 → Wf w′ (mapIn (build marks cells records .mesh))
+  pub wf : formatRefusal (length w) caps ≡ 0 → Wf w′ (build caps records .map)

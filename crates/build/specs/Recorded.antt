@@ -5,6 +5,7 @@ use Prim.Native.Nat.{ℕ, _+_, _-_, _<_, _≤_}
 use lib.ListN.{getD}
 use Rattle.words.specs.Words.{partOf}
 use Rattle.shapes.specs.Shapes.{shape}
+use Rattle.map.specs.Cells.{bodyOf}
 use Rattle.map.specs.History.{Edit, Insert}
 use Rattle.map.specs.declared.Refusal.the-variants.{CountWrong}
 use Rattle.map.specs.declared.Verdict.{Verdict}
@@ -17,7 +18,7 @@ width records at = 2 + shape (getD records (at + 1) 0) .marks
 
 -- the record between two places
 unfoldable pub between : List ℕ → ℕ → ℕ → Edit
-between records at end = Insert (getD records at 0) (getD records (at + 1) 0) (partOf records (at + 2) (end - 2 - at))
+between records at end = Insert (getD records at 0) (bodyOf (getD records (at + 1) 0) (partOf records (at + 2) (end - 2 - at)))
 
 pub record Recorded (w records : List ℕ) (at end : ℕ) (r : Verdict) (w′ : List ℕ) : Type 0 where
   -- no room for a number and a type

@@ -8,6 +8,7 @@
 ghost use mathlib.Core.Path.{_≡_};
 ghost use Prim.Native.Nat.{_+_, min};
 ghost use lib.ListN.{length};
+ghost use Rattle.numbers.specs.Sizes.{capacities};
 ghost use Rattle.build.specs.Builds.{Builds};
 ghost use Rattle.build.specs.Recorded.{width, Recorded};
 use format::format;
@@ -53,7 +54,7 @@ fn one_record(w: &mut [u32], records: &[u32], at: usize, end: usize) -> Verdict
 
 // A mesh of these capacities with the cells of the records.
 pub fn build(w: &mut [u32], marks: u32, cells: u32, records: &[u32]) -> Built
-    ensures { λ r. ⌜ Builds (now (w .entry)) marks cells (now (records .entry)) r (now (w .exit)) ⌝ }
+    ensures { λ r. ⌜ Builds (now (w .entry)) (capacities marks cells) (now (records .entry)) r (now (w .exit)) ⌝ }
 {
     if let Verdict::Refused(why) = format(w, marks, cells) {
         return Built::Refused(why, 0);

@@ -2,12 +2,13 @@
 //
 // What is here: a table of cases (what each is built from), a table of edits tried after the build, and for each kind of answer a function
 // that prints it. What is proved: the program is safe and ends. What it prints is held to `stdout`, which the second program writes.
+use ask::Step;
+use ask::Walker;
 use ask::border;
 use ask::count_of_type;
 use ask::first_anchor;
 use ask::marks_of;
 use ask::sibling;
-use ask::step;
 use ask::type_of;
 use build::build;
 use format::format;
@@ -22,11 +23,9 @@ use map::Built;
 use map::Found;
 use map::HalfAt;
 use map::Refusal;
-use map::Step;
 use map::Truth;
 use map::Value;
 use map::Verdict;
-use map::Walker;
 use map::number_of;
 use mesh::insert;
 use mesh::remove;
@@ -227,68 +226,68 @@ fn say_step(s: Step) {
     }
 }
 
-fn about_cell(w: &[u32], p: u32, c: u32) {
+fn about_cell(w: &[u32], p: u32, c: Cell) {
     say_case(p);
     say(b" cell");
-    say_number(c);
+    say_number(c.0);
     say(b": type");
-    say_value(type_of(w, Cell(c)));
+    say_value(type_of(w, c));
     say(b", marks");
-    let marks = marks_of(w, Cell(c));
+    let marks = marks_of(w, c);
     say_numbers(marks, marks.len());
     say(b", neighbours");
     let mut out = [0u32; 128];
-    let n = neighbours(w, Cell(c), &mut out);
+    let n = neighbours(w, c, &mut out);
     say_list(n, &out);
     say(b"\n");
 }
 
-fn about_half(w: &[u32], p: u32, c: u32, f: u32) {
+fn about_half(w: &[u32], p: u32, c: Cell, f: u32) {
     say_case(p);
     say(b" half");
-    say_number(c);
+    say_number(c.0);
     say_number(f);
     say(b": sibling");
-    say_half(sibling(w, Cell(c), f));
+    say_half(sibling(w, c, f));
     say(b", border");
-    say_truth(border(w, Cell(c), f));
+    say_truth(border(w, c, f));
     say(b", cycle");
     let mut out = [0u32; 128];
-    let n = cycle(w, Cell(c), f, &mut out);
+    let n = cycle(w, c, f, &mut out);
     say_list(n, &out);
     say(b", step");
-    say_step(step(Walker(half_of(Cell(c), f)), w));
+    say_step(Walker(half_of(c, f)).step(w));
     say(b"\n");
 }
 
-fn about_halves(w: &[u32], p: u32, c: u32) {
+fn about_halves(w: &[u32], p: u32, c: Cell) {
     for f in 0..5 {
         about_half(w, p, c, f);
     }
 }
 
-fn about_mark(w: &[u32], p: u32, d: u32, v: u32) {
+fn about_mark(w: &[u32], p: u32, d: u32, v: Mark) {
     say_case(p);
     say(b" mark");
-    say_number(v);
+    say_number(v.0);
     say(b" dimension");
     say_number(d);
     say(b": star");
     let mut cells = [0u32; 128];
-    let n = star(w, d, Mark(v), &mut cells);
+    let n = star(w, d, v, &mut cells);
     say_list(n, &cells);
     say(b", anchors");
     let mut halves = [0u32; 128];
-    let k = anchors(w, d, Mark(v), &mut halves);
+    let k = anchors(w, d, v, &mut halves);
     say_list(k, &halves);
     say(b", first");
-    say_found(first_anchor(w, d, Mark(v)));
+    say_found(first_anchor(w, d, v));
     say(b"\n");
 }
 
 fn about_marks(w: &[u32], p: u32, d: u32) {
     for v in 0..6 {
-        about_mark(w, p, d, v);
+        about_mark(w, p, d, Mark(v));
     }
 }
 
@@ -336,8 +335,8 @@ fn about_pairs(w: &[u32], p: u32, a: u32) {
 
 fn about_cells(w: &[u32], p: u32) {
     for c in 0..5 {
-        about_cell(w, p, c);
-        about_halves(w, p, c);
+        about_cell(w, p, Cell(c));
+        about_halves(w, p, Cell(c));
     }
 }
 
@@ -380,23 +379,23 @@ fn everything(w: &[u32], p: u32) {
     about_whole(w, p);
 }
 
-fn try_remove(w: &mut [u32], c: u32) {
+fn try_remove(w: &mut [u32], c: Cell) {
     say(b" remove");
-    say_number(c);
+    say_number(c.0);
     say(b":");
-    say_verdict(remove(w, Cell(c)));
+    say_verdict(remove(w, c));
     say(b"\n");
 }
 
-fn try_insert(w: &mut [u32], c: u32, t: u32, marks: &[u32]) {
+fn try_insert(w: &mut [u32], c: Cell, t: u32, marks: &[u32]) {
     say(b" insert");
-    say_number(c);
+    say_number(c.0);
     say(b" type");
     say_number(t);
     say(b" marks");
     say_numbers(marks, marks.len());
     say(b":");
-    say_verdict(insert(w, Cell(c), t, marks));
+    say_verdict(insert(w, c, t, marks));
     say(b"\n");
 }
 
@@ -408,10 +407,10 @@ fn try_edit(w: &mut [u32], p: u32, k: usize) {
     }
     say_case(p);
     if row[1] == 0 {
-        try_remove(w, row[2]);
+        try_remove(w, Cell(row[2]));
     } else {
         let n = row[4];
-        try_insert(w, row[2], row[3], part(&row, 5, n as usize));
+        try_insert(w, Cell(row[2]), row[3], part(&row, 5, n as usize));
     }
 }
 
@@ -484,14 +483,14 @@ fn formats() {
 }
 
 // A bar from mark 0 to the mark of the cell's number and one.
-fn try_bar(w: &mut [u32], c: u32) {
-    if 65535 < c {
+fn try_bar(w: &mut [u32], c: Cell) {
+    if 65535 < c.0 {
         return;
     }
     say(b"bound insert");
-    say_number(c);
+    say_number(c.0);
     say(b":");
-    say_verdict(insert(w, Cell(c), 1, &[0, c + 1]));
+    say_verdict(insert(w, c, 1, &[0, c.0 + 1]));
     say(b"\n");
 }
 
@@ -548,7 +547,7 @@ fn lists(w: &[u32], cut: usize) {
 
 fn try_bars(w: &mut [u32]) {
     for c in 0..129 {
-        try_bar(w, c);
+        try_bar(w, Cell(c));
     }
 }
 
@@ -563,10 +562,10 @@ fn fill_mark(w: &mut [u32]) {
 
 fn refill_mark(w: &mut [u32]) {
     say(b"bound");
-    try_remove(w, 5);
+    try_remove(w, Cell(5));
     lists(w, 1);
-    try_bar(w, 128);
-    try_bar(w, 5);
+    try_bar(w, Cell(128));
+    try_bar(w, Cell(5));
     lists(w, 0);
 }
 

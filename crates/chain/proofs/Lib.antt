@@ -1,9 +1,8 @@
 -- The laws that the layers above cite.
 pub mod Nexts
-pub mod Walks
 pub mod Places
+pub mod Walks
 pub mod Links
-pub mod Shows
-pub mod Frames
+pub mod Differ
 pub mod Relinks
 pub mod Readied

@@ -7,7 +7,7 @@ use native.Mathlib.Omega.{arith}
 use lib.ListN.{length}
 use Rattle.lists.specs.Lists.{has, select}
 use Rattle.lists.proofs.Select.{select-same}
-use Rattle.shapes.proofs.Today.{four-marks}
+use Rattle.shapes.proofs.Facts.{facts}
 use Rattle.numbers.specs.declared.Caps.{Caps}
 use Rattle.map.specs.Cells.{Map, holds}
 use Rattle.map.specs.Stars.{holders}
@@ -27,7 +27,7 @@ module _ (caps : Caps) (s : State) (r : Ready caps s) where
   unfolding holds mapWith
   ready-linked = record {
     held = λ v c e. sym (r .chains v c) ∙ e;
-    corners = λ c. omega (arith, r .sound .fitting c, four-marks (s .at c .code));
+    corners = λ c. omega (arith, r .sound .fitting c, facts (s .at c .code) .marks);
     distinct = λ c. r .sound .distinct c;
     few = λ v. rw (chain-holders v) (r .sound .few v);
   }

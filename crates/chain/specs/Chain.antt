@@ -6,14 +6,15 @@ use Prim.Native.Nat.{ℕ, _<_, _≤_}
 use lib.ListN.{length, drop}
 use Rattle.lists.specs.Lists.{has, repeats}
 use Rattle.numbers.specs.declared.Caps.{Caps}
+use Rattle.shapes.specs.Sizes.{mostMarks}
 use Rattle.picture.specs.State.{State}
 use Rattle.picture.specs.Picture.{Pic, chainOf, corner}
 use Rattle.numbers.specs.Sizes.{mostAround}
 
--- a cell stands only in the chains of its own marks, has at most four, none twice, and no chain is longer than 128
+-- a cell stands only in the chains of its own marks, has at most eight, none twice, and no chain is longer than 128
 pub record Linked (caps : Caps) (s : State) : Type 0 where
   pub held : (v c : ℕ) → s .chain v c ≡ true → has v (s .at c .marks) ≡ true
-  pub corners : (c : ℕ) → length (s .at c .marks) ≤ 4
+  pub corners : (c : ℕ) → length (s .at c .marks) ≤ mostMarks
   pub distinct : (c : ℕ) → repeats (s .at c .marks) ≡ false
   pub few : (v : ℕ) → length (chainOf caps s v) ≤ mostAround
 

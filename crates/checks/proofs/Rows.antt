@@ -1,58 +1,69 @@
 -- Each row of checks, check by check.
-use mathlib.Core.Path.{_≡_, refl, sym, ap, _∙_}
-use mathlib.Core.Bool.{Bool, true, false, cond, not, _&&_, _||_}
-use mathlib.Core.List.{List, [], _∷_, _++_}
-use Prim.Native.Nat.{ℕ, suc, _+_, _<_, _≤_}
+use mathlib.Core.Path.{_≡_, sym, ap, _∙_}
+use mathlib.Core.Bool.{true, false}
+use mathlib.Core.List.{List}
+use Prim.Native.Nat.{ℕ, _<_, _≤_}
 use native.Mathlib.Omega.{arith}
 use borrow.Author.Tests.{le-leb, lt-leb, lt-ltb, le-ltb, eq-eqb, ne-eqb}
-use lib.Dec.{leb, ltb, eqb}
-use lib.ListN.{getD, length}
+use lib.Dec.{leb}
+use lib.ListN.{length}
 use Rattle.lists.specs.Lists.{any, repeats}
+use Rattle.words.specs.Words.{partOf}
 use Rattle.shapes.specs.Shapes.{shape, facetCount}
+use Rattle.shapes.proofs.Facts.{facts}
 use Rattle.numbers.specs.declared.Caps.{Caps}
-use Rattle.store.specs.Layout.{cellAt, Cell, address}
+use Rattle.store.specs.Slots.{codeIn, marksAt}
 use Rattle.map.specs.Cells.{Map, live}
-use Rattle.map.specs.Answers.{Check, _when_, answer, cellChecks, halfChecks, starChecks, setChecks, typeChecks}
-use Rattle.map.specs.Paper.{numberOf, given, refused, verdictSays}
+use Rattle.map.specs.Answers.{_when_, answer, cellChecks, halfChecks, starChecks, setChecks, typeChecks}
+use Rattle.map.specs.Says.{given, refused, verdictSays}
 use Rattle.map.specs.declared.Refusal.the-variants.{CellOutside, CellNotLive, TypeUnknown, CountWrong, MarkOutside, MarkTwice, FacetOutside}
 use Rattle.map.specs.declared.Verdict.the-variants.{Accepted, Refused}
-use Rattle.picture.specs.State.{capsOf, stateOf}
-use Rattle.picture.specs.Picture.{wordOf, cellWords, Wf}
+use Rattle.picture.specs.State.{stateOf}
+use Rattle.picture.specs.Picture.{Wf}
+use Rattle.picture.proofs.Record.{code-read, marks-read}
+use Rattle.picture.proofs.Settles.{wf-pic}
 use Rattle.checks.specs.Checked.{Checked}
 
-module _ (caps : Caps) (m : Map) (e : capsOf m ≡ caps) where
-  pub marks-of : m .marks ≡ caps .marks
-  unfolding capsOf
+module _ (caps : Caps) (m : Map) (e : m .caps ≡ caps) where
+  pub marks-of : m .caps .marks ≡ caps .marks
   marks-of = ap (λ (c : Caps). c .marks) e
 
-  pub cells-of : m .cells ≡ caps .cells
-  unfolding capsOf
+  pub cells-of : m .caps .cells ≡ caps .cells
   cells-of = ap (λ (c : Caps). c .cells) e
 
-  -- a record's first word is the type
-  pub code-of : (w : List ℕ) → Wf w m → (c : ℕ) → c < caps .cells → getD w (cellAt (caps .marks) c + 0) 0 ≡ m .at c .code
-  unfolding capsOf stateOf address wordOf cellWords
-  code-of w wf c h = rw (← marks-of) (wf .picture .words (Cell c 0) (omega (arith, cells-of), omega arith))
+  -- the type that a record gives
+  pub code-of : (w : List ℕ) → Wf w m → (c : ℕ) → c < caps .cells → codeIn w caps c ≡ m .at c .code
+  unfolding stateOf
+  code-of w wf c h = code-read w caps (stateOf m) (wf-pic w caps m e wf) c h
+
+  -- and the marks, as many as that type has
+  pub marks-in : (w : List ℕ) → Wf w m → (c : ℕ) → c < caps .cells
+      → partOf w (marksAt caps c (shape (codeIn w caps c) .marks)) (shape (codeIn w caps c) .marks) ≡ m .at c .marks
+  unfolding stateOf
+  marks-in w wf c h =
+      let size : shape (codeIn w caps c) .marks ≡ length (m .at c .marks) = ap (λ (t : ℕ). shape t .marks) (code-of w wf c h) ∙ sym (wf .sound .fitting c) in
+      ap (λ (n : ℕ). partOf w (marksAt caps c n) n) size
+      ∙ marks-read w caps (stateOf m) (wf-pic w caps m e wf) c h (omega (arith, wf .sound .fitting c, facts (m .at c .code) .marks))
 
 module _ (w : List ℕ) (caps : Caps) (c : ℕ) where
   pub cell-outside : caps .cells ≤ c → Checked w caps (λ m. cellChecks m c) (Refused CellOutside)
   unfolding cellChecks _when_ answer verdictSays refused
-  cell-outside h = record { says = λ m e wf. rw (le-leb (m .cells) c (omega (arith, cells-of caps m e))) }
+  cell-outside h = record { says = λ m e wf. rw (le-leb (m .caps .cells) c (omega (arith, cells-of caps m e))) }
 
-  module _ (h : c < caps .cells) (t : ℕ) (word : t ≡ getD w (cellAt (caps .marks) c + 0) 0) where
-    code : (m : Map) → capsOf m ≡ caps → Wf w m → m .at c .code ≡ t
+  module _ (h : c < caps .cells) (t : ℕ) (word : t ≡ codeIn w caps c) where
+    code : (m : Map) → m .caps ≡ caps → Wf w m → m .at c .code ≡ t
     code m e wf = sym (code-of caps m e w wf c h) ∙ sym word
 
-    alive : (m : Map) → capsOf m ≡ caps → Wf w m → (t ≡ 0 → ⊥) → live m c ≡ true
+    alive : (m : Map) → m .caps ≡ caps → Wf w m → (t ≡ 0 → ⊥) → live m c ≡ true
     unfolding live
     alive m e wf ne = rw (ne-eqb (m .at c .code) 0 (λ z. ne (sym (code m e wf) ∙ z)))
 
-    dead : (m : Map) → capsOf m ≡ caps → Wf w m → t ≡ 0 → live m c ≡ false
+    dead : (m : Map) → m .caps ≡ caps → Wf w m → t ≡ 0 → live m c ≡ false
     unfolding live
     dead m e wf z = rw (eq-eqb (m .at c .code) 0 (code m e wf ∙ z))
 
-    below : (m : Map) → capsOf m ≡ caps → leb (m .cells) c ≡ false
-    below m e = lt-leb (m .cells) c (omega (arith, cells-of caps m e))
+    below : (m : Map) → m .caps ≡ caps → leb (m .caps .cells) c ≡ false
+    below m e = lt-leb (m .caps .cells) c (omega (arith, cells-of caps m e))
 
     pub cell-dead : t ≡ 0 → Checked w caps (λ m. cellChecks m c) (Refused CellNotLive)
     unfolding cellChecks _when_ answer verdictSays refused
@@ -79,7 +90,7 @@ module _ (w : List ℕ) (caps : Caps) (c : ℕ) where
 
   pub half-outside : (f : ℕ) → caps .cells ≤ c → Checked w caps (λ m. halfChecks m c f) (Refused CellOutside)
   unfolding halfChecks cellChecks _when_ answer verdictSays refused
-  half-outside f h = record { says = λ m e wf. rw (le-leb (m .cells) c (omega (arith, cells-of caps m e))) }
+  half-outside f h = record { says = λ m e wf. rw (le-leb (m .caps .cells) c (omega (arith, cells-of caps m e))) }
 
 module _ (w : List ℕ) (caps : Caps) (d v : ℕ) where
   pub star-low : d < 1 → Checked w caps (λ m. starChecks m d v) (Refused TypeUnknown)
@@ -94,11 +105,11 @@ module _ (w : List ℕ) (caps : Caps) (d v : ℕ) where
     module _ (high : d ≤ 3) where
       pub star-mark : caps .marks ≤ v → Checked w caps (λ m. starChecks m d v) (Refused MarkOutside)
       unfolding starChecks _when_ answer verdictSays refused
-      star-mark h = record { says = λ m e wf. rw (le-ltb d 1 low, le-ltb 3 d high, le-leb (m .marks) v (omega (arith, marks-of caps m e))) }
+      star-mark h = record { says = λ m e wf. rw (le-ltb d 1 low, le-ltb 3 d high, le-leb (m .caps .marks) v (omega (arith, marks-of caps m e))) }
 
       pub star-good : v < caps .marks → Checked w caps (λ m. starChecks m d v) Accepted
       unfolding starChecks _when_ answer verdictSays given
-      star-good h = record { says = λ m e wf. rw (le-ltb d 1 low, le-ltb 3 d high, lt-leb (m .marks) v (omega (arith, marks-of caps m e))) }
+      star-good h = record { says = λ m e wf. rw (le-ltb d 1 low, le-ltb 3 d high, lt-leb (m .caps .marks) v (omega (arith, marks-of caps m e))) }
 
 module _ (w : List ℕ) (caps : Caps) (t n : ℕ) (kind : n ≡ shape t .dimension) where
   pub type-none : n ≡ 0 → Checked w caps (λ m. typeChecks t) (Refused TypeUnknown)

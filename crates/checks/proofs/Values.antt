@@ -1,35 +1,17 @@
 -- A verdict on a row of checks is the verdict whatever the values.
-use mathlib.Core.Path.{_≡_, refl, sym, ap, _∙_}
+use mathlib.Core.Path.{_≡_, refl, sym, ap}
 use mathlib.Core.Bool.{Bool, true, false, cond, not, _&&_}
 use mathlib.Core.List.{List, [], _∷_, _++_}
-use Prim.Native.Nat.{ℕ, zero, suc, _≤_}
+use Prim.Native.Nat.{ℕ, _≤_}
 use native.Mathlib.Omega.{arith}
 use borrow.Author.Tests.{eqb-false, not-true}
 use lib.Dec.{eqb}
 use Rattle.lists.specs.Lists.{all}
-use Rattle.lists.proofs.Bools.{clash, and-left, and-right}
+use Rattle.lists.proofs.Bools.{and-left, and-right}
 use Rattle.map.specs.declared.Refusal.{Refusal}
-use Rattle.map.specs.declared.Refusal.the-variants.{CapacityAbove, MemoryShort, CellOutside, CellLive, CellNotLive, TypeUnknown, CountWrong, MarkOutside, MarkTwice, CellSame, MarkFull, OutputShort, FacetOutside, NotMesh, BadFrame}
 use Rattle.map.specs.Answers.{Check, Answer, answer}
-use Rattle.map.specs.Paper.{numberOf, given, refused}
-
--- no refusal has the number 0
-pub number-some : (r : Refusal) → 1 ≤ numberOf r
-number-some CapacityAbove = omega arith
-number-some MemoryShort = omega arith
-number-some CellOutside = omega arith
-number-some CellLive = omega arith
-number-some CellNotLive = omega arith
-number-some TypeUnknown = omega arith
-number-some CountWrong = omega arith
-number-some MarkOutside = omega arith
-number-some MarkTwice = omega arith
-number-some CellSame = omega arith
-number-some MarkFull = omega arith
-number-some OutputShort = omega arith
-number-some FacetOutside = omega arith
-number-some NotMesh = omega arith
-number-some BadFrame = omega arith
+use Rattle.map.proofs.Refusals.{number-some}
+use Rattle.map.specs.Says.{numberOf, given, refused}
 
 -- no check of a row has it
 abbrev pub Numbered : List Check → Type 0

@@ -10,31 +10,33 @@ use lists::repeats;
 use map::Refusal;
 use map::Verdict;
 use numbers::Caps;
+use numbers::Cell;
+use numbers::Mark;
 use shapes::dimension;
 use shapes::facet_count;
-use store::cell_word;
+use store::code_of;
 
 // A cell: its number is below the capacity, and it is live.
-pub fn check_cell(w: &[u32], caps: Caps, c: u32) -> Verdict
-    ensures { λ r. ⌜ Checked (now (w .entry)) caps (λ m. cellChecks m c) r ⌝ }
+pub fn check_cell(w: &[u32], caps: Caps, c: Cell) -> Verdict
+    ensures { λ r. ⌜ Checked (now (w .entry)) caps (λ m. cellChecks m (c .0)) r ⌝ }
 {
-    if caps.cells <= c {
+    if caps.cells <= c.0 {
         return Verdict::Refused(Refusal::CellOutside);
     }
-    if cell_word(w, caps, c, 0) == 0 {
+    if code_of(w, caps, c) == 0 {
         return Verdict::Refused(Refusal::CellNotLive);
     }
     Verdict::Accepted
 }
 
 // A half-facet: its cell is live, and the facet is below the type's count.
-pub fn check_half(w: &[u32], caps: Caps, c: u32, f: u32) -> Verdict
-    ensures { λ r. ⌜ Checked (now (w .entry)) caps (λ m. halfChecks m c f) r ⌝ }
+pub fn check_half(w: &[u32], caps: Caps, c: Cell, f: u32) -> Verdict
+    ensures { λ r. ⌜ Checked (now (w .entry)) caps (λ m. halfChecks m (c .0) f) r ⌝ }
 {
-    if caps.cells <= c {
+    if caps.cells <= c.0 {
         return Verdict::Refused(Refusal::CellOutside);
     }
-    let t = cell_word(w, caps, c, 0);
+    let t = code_of(w, caps, c);
     if t == 0 {
         return Verdict::Refused(Refusal::CellNotLive);
     }
@@ -45,8 +47,8 @@ pub fn check_half(w: &[u32], caps: Caps, c: u32, f: u32) -> Verdict
 }
 
 // A dimension and a mark.
-pub fn check_star(w: &[u32], caps: Caps, d: u32, v: u32) -> Verdict
-    ensures { λ r. ⌜ Checked (now (w .entry)) caps (λ m. starChecks m d v) r ⌝ }
+pub fn check_star(w: &[u32], caps: Caps, d: u32, v: Mark) -> Verdict
+    ensures { λ r. ⌜ Checked (now (w .entry)) caps (λ m. starChecks m d (v .0)) r ⌝ }
 {
     if d < 1 {
         return Verdict::Refused(Refusal::TypeUnknown);
@@ -54,7 +56,7 @@ pub fn check_star(w: &[u32], caps: Caps, d: u32, v: u32) -> Verdict
     if 3 < d {
         return Verdict::Refused(Refusal::TypeUnknown);
     }
-    if caps.marks <= v {
+    if caps.marks <= v.0 {
         return Verdict::Refused(Refusal::MarkOutside);
     }
     Verdict::Accepted

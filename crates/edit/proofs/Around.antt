@@ -12,60 +12,62 @@ use Rattle.lists.specs.Lists.{has, any, sameSet}
 use Rattle.lists.proofs.Bools.{clash, not-true-false}
 use Rattle.lists.proofs.Members.{at-any}
 use Rattle.lists.proofs.Sets.{same-refl}
-use Rattle.shapes.proofs.Today.{four-facets}
+use Rattle.shapes.specs.Sizes.{mostCode}
+use Rattle.shapes.proofs.Facts.{facts}
 use Rattle.shapes.specs.Shapes.{shape, shapes, noShape}
 use Rattle.shapes.specs.Table.{table}
 use Rattle.numbers.specs.declared.Caps.{Caps}
-use Rattle.store.specs.Layout.{Slot, Head, Mark, Cell, Cold}
+use Rattle.store.specs.Fields.{Magic, MarkCap, CellCap, Count, HeadRest, First, Held, Anchor, MarkRest, Code, Near, Sib, Link, Far, CellRest}
+use Rattle.store.specs.Slots.{Slot, InHead, InMark, InCell, Within}
 use Rattle.map.specs.Cells.{Body, Map, holds, facetsAt, cellsOf}
 use Rattle.map.specs.Siblings.{isHalf, marksOf, sibling}
 use Rattle.map.specs.Sound.{Sound}
 use Rattle.laws.proofs.Local.{Apart, Free, OneMore, half-other, sibling-other, anchors-free, more-free, apart-back}
 use Rattle.laws.proofs.Counted.{more-type-other}
 use Rattle.laws.proofs.Halves.{none-facets}
-use Rattle.picture.specs.State.{State, next, capsOf, mapWith, stateOf}
-use Rattle.picture.specs.Picture.{chainOf, link, corner, linkWord, headWords, markWords, cellWords, wordOf, Pic, Wf}
+use Rattle.picture.specs.State.{State, next, mapWith, stateOf}
+use Rattle.picture.specs.Picture.{chainOf, ahead, link, corner, linkWord, headWord, markWord, cellWord, wordOf, Pic, Wf}
 use Rattle.picture.specs.Changes.{withCount}
 use Rattle.picture.proofs.Put.{pic-same}
 use Rattle.picture.proofs.Alike.{state-same}
-use Rattle.sibling.proofs.OnPicture.{facets-count}
-use Rattle.settle.specs.Settle.{setsOf, among, MaySettle, settled}
+use Rattle.laws.proofs.Facets.{facets-count}
+use Rattle.map.specs.Cells.{setsOf}
+use Rattle.settle.specs.Settle.{among, MaySettle, settled}
 use Rattle.edit.specs.Edit.{withLinks}
 
 -- a state with other counts
 abbrev pub withCounts : State → (ℕ → ℕ) → State
 withCounts s count = record { at = s .at; chain = s .chain; sib = s .sib; anc = s .anc; count = count }
 
-module _ (caps : Caps) (s : State) (count : ℕ → ℕ) (same : (t : ℕ) → 1 ≤ t → t ≤ 4 → s .count t ≡ count t) where
-  counts-words : (z : Slot) → wordOf caps s z ≡ wordOf caps (withCounts s count) z
-  unfolding wordOf headWords markWords cellWords link chainOf corner linkWord
-  counts-words (Mark v k) = refl
-  counts-words (Cell c k) = refl
-  counts-words (Cold c k) = refl
-  counts-words (Head k) = at k
-    where
-      at : (k : ℕ) → getD (headWords caps s) k 0 ≡ getD (headWords caps (withCounts s count)) k 0
-      at zero = refl
-      at (suc zero) = refl
-      at (suc (suc zero)) = refl
-      at (suc (suc (suc zero))) = refl
-      at (suc (suc (suc (suc zero)))) = refl
-      at (suc (suc (suc (suc (suc zero))))) = same 1 (omega arith) (omega arith)
-      at (suc (suc (suc (suc (suc (suc zero)))))) = same 2 (omega arith) (omega arith)
-      at (suc (suc (suc (suc (suc (suc (suc zero))))))) = same 3 (omega arith) (omega arith)
-      at (suc (suc (suc (suc (suc (suc (suc (suc zero)))))))) = same 4 (omega arith) (omega arith)
-      at (suc (suc (suc (suc (suc (suc (suc (suc (suc k))))))))) = refl
+module _ (caps : Caps) (s : State) (count : ℕ → ℕ) (same : (t : ℕ) → 1 ≤ t → t ≤ mostCode → s .count t ≡ count t) where
+  counts-words : (z : Slot) → Within (caps .marks) (caps .cells) z → wordOf caps s z ≡ wordOf caps (withCounts s count) z
+  unfolding wordOf headWord markWord cellWord link ahead chainOf corner linkWord
+  counts-words (InHead Magic) h = refl
+  counts-words (InHead MarkCap) h = refl
+  counts-words (InHead CellCap) h = refl
+  counts-words (InHead (Count t)) h = same t (h .0) (h .1)
+  counts-words (InHead (HeadRest k)) h = refl
+  counts-words (InMark v First) h = refl
+  counts-words (InMark v Held) h = refl
+  counts-words (InMark v (Anchor d)) h = refl
+  counts-words (InMark v (MarkRest k)) h = refl
+  counts-words (InCell c Code) h = refl
+  counts-words (InCell c (Near k)) h = refl
+  counts-words (InCell c (Sib f)) h = refl
+  counts-words (InCell c (Link k)) h = refl
+  counts-words (InCell c (Far k)) h = refl
+  counts-words (InCell c (CellRest p)) h = refl
 
-  -- counts are stored for the types 1 to 4
+  -- counts are stored for the codes of the table
   pub pic-counts : (w : List ℕ) → Pic w caps s → Pic w caps (withCounts s count)
-  pic-counts w p = pic-same w caps s (withCounts s count) (λ z h. counts-words z) p
+  pic-counts w p = pic-same w caps s (withCounts s count) counts-words p
 
 -- from m to m′ a cell of type t on these marks, under the number c, comes or goes
 pub record Turn (m m′ : Map) (c t : ℕ) (marks : List ℕ) : Type 0 where
   pub sound : Sound m′
   pub apart : Apart m m′ c
   pub count : length marks ≡ shape t .marks
-  pub inside : (v : ℕ) → has v marks ≡ true → v < m′ .marks
+  pub inside : (v : ℕ) → has v marks ≡ true → v < m′ .caps .marks
   pub free : (v : ℕ) → has v marks ≡ false → Free m m′ c v
   pub facets : (p : List ℕ → Bool) → any p (setsOf t marks) ≡ false → (any p (facetsAt m c) ≡ false) × (any p (facetsAt m′ c) ≡ false)
   pub others : (u : ℕ) → 0 < u → (u ≡ t → ⊥) → cellsOf m′ u ≡ cellsOf m u
@@ -74,7 +76,7 @@ module _ (m m′ : Map) (c : ℕ) (x : Body) (r : OneMore m m′ c x) where
   -- the cell that is more has the facets, the other map none there
   more-facets : (p : List ℕ → Bool) → any p (setsOf (x .code) (x .marks)) ≡ false
       → (any p (facetsAt m c) ≡ false) × (any p (facetsAt m′ c) ≡ false)
-  unfolding any setsOf facetsAt
+  unfolding any facetsAt
   more-facets p e = (rw (none-facets m c (r .before)), rw (r .after) e)
 
   -- and as many marks as its type says
@@ -82,7 +84,7 @@ module _ (m m′ : Map) (c : ℕ) (x : Body) (r : OneMore m m′ c x) where
   more-count = rw (r .after) at (r .apart .fitting′ c)
 
   -- marks of the mesh
-  more-inside : Sound m′ → (v : ℕ) → has v (x .marks) ≡ true → v < m′ .marks
+  more-inside : Sound m′ → (v : ℕ) → has v (x .marks) ≡ true → v < m′ .caps .marks
   unfolding holds
   more-inside s v e = s .inside v c (rw (r .after) e)
 
@@ -104,7 +106,7 @@ module _ (m m′ : Map) (c : ℕ) (x : Body) (r : OneMore m m′ c x) where
     sound = s;
     apart = apart-back m m′ c (r .apart);
     count = more-count;
-    inside = λ v e. rw (r .apart .marks) at (more-inside s′ v e);
+    inside = λ v e. rw (r .apart .caps) at (more-inside s′ v e);
     free = λ v e. let f = more-free m m′ c x r v e in (f .1, f .0);
     facets = λ p e. let f = more-facets p e in (f .1, f .0);
     others = λ u l n. sym (more-type-other m m′ c x r u l n);
@@ -130,16 +132,16 @@ pub record Around (caps : Caps) (m : Map) (c : ℕ) (s : State) : Type 0 where
   pub ancs : (d v : ℕ) → s .anc d v ≡ stateOf m .anc d v
   pub counts : (u : ℕ) → s .count u ≡ stateOf m .count u
 
--- what is no half-facet has no sibling: a cell with no facets has none, and no cell has more than four
+-- what is no half-facet has no sibling: a cell with no facets has none, and no cell has more than six
 module _ (m : Map) (h : ℕ) where
   pub no-sib : facetsAt m (h / 8) ≡ [] → stateOf m .sib h ≡ 0
   unfolding stateOf isHalf
   no-sib e = rw (e, le-ltb (h % 8) 0 (omega arith))
 
-  pub past-sib : 4 ≤ h % 8 → stateOf m .sib h ≡ 0
+  pub past-sib : 6 ≤ h % 8 → stateOf m .sib h ≡ 0
   unfolding stateOf isHalf
   past-sib l =
-      rw (le-ltb (h % 8) (length (facetsAt m (h / 8))) (omega (arith, facets-count m (h / 8), four-facets (m .at (h / 8) .code))))
+      rw (le-ltb (h % 8) (length (facetsAt m (h / 8))) (omega (arith, facets-count m (h / 8), facts (m .at (h / 8) .code) .facets)))
 
 module _ (m m′ : Map) (c t : ℕ) (marks : List ℕ) (r : Turn m m′ c t marks) (h : ℕ) (e : among m′ (setsOf t marks) h ≡ false) where
   -- the set of a half-facet is none of the sets
@@ -188,7 +190,7 @@ module _ (caps : Caps) (m : Map) (c t : ℕ) (marks : List ℕ) (s : State) (r :
       sib h e (no n) = a .other h n ∙ kept-sib m (mapWith caps s) c t marks r h e n
 
   pub around-wf : (w : List ℕ) → Pic w caps (withCount (settled caps s) t (length (cellsOf (mapWith caps s) t))) → Wf w (mapWith caps s)
-  unfolding withCount settled stateOf mapWith capsOf
+  unfolding withCount settled stateOf mapWith
   around-wf w p = record { sound = r .sound; picture = subst (Pic w caps) fields (pic-counts caps counted (stateOf m′ .count) agree w p) }
     where
       m′ : Map
@@ -197,7 +199,7 @@ module _ (caps : Caps) (m : Map) (c t : ℕ) (marks : List ℕ) (s : State) (r :
       counted : State
       counted = withCount (settled caps s) t (length (cellsOf m′ t))
 
-      agree : (u : ℕ) → 1 ≤ u → u ≤ 4 → counted .count u ≡ stateOf m′ .count u
+      agree : (u : ℕ) → 1 ≤ u → u ≤ mostCode → counted .count u ≡ stateOf m′ .count u
       agree u lo hi = go (ℕ-discrete t u)
         where
           go : Dec (t ≡ u) → counted .count u ≡ stateOf m′ .count u

@@ -141,8 +141,8 @@ module _ (caps : Caps) (s : State) (c : ℕ) (part : List ℕ) (u : ℕ) where
 
 -- a cell's marks
 module _ (caps : Caps) (s : State) (c : ℕ) (marks : List ℕ) (l : Linked caps s) (e : s .at c .marks ≡ marks) where
-  all-four : length marks ≤ 4
-  all-four = rw e at (l .corners c)
+  all-few : length marks ≤ 8
+  all-few = rw e at (l .corners c)
 
   -- the first k of them, and the next
   module _ (k : ℕ) (h : k < length marks) where
@@ -172,8 +172,8 @@ module _ (caps : Caps) (s : State) (c : ℕ) (marks : List ℕ) (l : Linked caps
     next-linked on few = part-linked caps s c (take k marks) on l (λ u t. rw e (first-has u t)) few
 
 module _ (caps : Caps) (c : ℕ) (marks : List ℕ) (s : State) where
-  pub link-few : MayLink caps c marks s → length marks ≤ 4
-  link-few m = all-four caps s c marks (m .linked) (m .corners)
+  pub link-few : MayLink caps c marks s → length marks ≤ 8
+  link-few m = all-few caps s c marks (m .linked) (m .corners)
 
   -- the next mark's chain may take the cell
   pub link-next : MayLink caps c marks s → (k : ℕ) → k < length marks → MaySplice caps (getD marks k 0) k c (withLinks s c (take k marks) true)
@@ -202,8 +202,8 @@ module _ (caps : Caps) (c : ℕ) (marks : List ℕ) (s : State) where
           let mine = first-has caps s c marks (m .linked) (m .corners) k h u t in
           omega (arith, m .few u mine, part-more caps s c (take k marks) u (m .cell) t (m .loose u mine))
 
-  pub unlink-few : MayUnlink caps c marks s → length marks ≤ 4
-  unlink-few m = all-four caps s c marks (m .linked) (m .corners)
+  pub unlink-few : MayUnlink caps c marks s → length marks ≤ 8
+  unlink-few m = all-few caps s c marks (m .linked) (m .corners)
 
   -- the cell may go from the next mark's chain
   pub unlink-next : MayUnlink caps c marks s → (k : ℕ) → k < length marks

@@ -1,24 +1,28 @@
 -- A removal step by step: each step is allowed in its turn, and what is left are the words of the map without the cell.
-use mathlib.Core.Path.{_≡_, refl, _∙_, subst}
-use mathlib.Core.Bool.{Bool, true, false, cond}
+use mathlib.Core.Path.{_≡_, refl, sym, ap, ap₂, _∙_, subst, fun-ext}
+use mathlib.Core.Bool.{Bool, true, false, cond, _&&_}
 use mathlib.Core.List.{List, []}
+use mathlib.Core.Logic.{inr}
 use Prim.Native.Nat.{ℕ, _+_, _*_, _-_, _/_, _%_, _<_, _≤_}
 use native.Mathlib.Omega.{arith}
-use borrow.Author.Tests.{ne-eqb, eqb-false}
-use lib.Dec.{eqb}
+use native.Mathlib.Decide.{ℕ-discrete, decLt}
+use borrow.Author.Tests.{eq-eqb, ne-eqb, lt-ltb, le-ltb, ltb-false}
+use lib.Dec.{eqb, ltb}
 use lib.ListN.{length}
 use Rattle.lists.specs.Lists.{has}
-use Rattle.shapes.proofs.Today.{four-types}
+use Rattle.shapes.specs.Sizes.{mostCode}
+use Rattle.shapes.proofs.Types.{type-code}
 use Rattle.shapes.specs.Table.{table}
-use Rattle.words.proofs.Frame.{only-then}
+use Rattle.words.proofs.Frame.{only-none, only-then}
 use Rattle.numbers.specs.declared.Caps.{Caps}
+use Rattle.numbers.specs.Half.{halfOf}
 use Rattle.map.specs.Cells.{Map, noCell, dimensionAt, holds, cellsOf}
-use Rattle.map.specs.History.{Remove, changed}
+use Rattle.map.specs.History.{Remove, put, changed}
 use Rattle.map.specs.Sound.{Sound}
 use Rattle.laws.proofs.Edits.{MayRemove, none-holds, sound-remove}
 use Rattle.laws.proofs.Local.{more-remove}
 use Rattle.laws.proofs.Counted.{count-remove}
-use Rattle.picture.specs.State.{State, capsOf, mapWith, stateOf}
+use Rattle.picture.specs.State.{State, mapWith, stateOf}
 use Rattle.picture.specs.Picture.{Pic, Wf}
 use Rattle.picture.specs.Changes.{withBody, withSib, withCount}
 use Rattle.picture.specs.Step.{Step}
@@ -26,7 +30,7 @@ use Rattle.picture.specs.Writes.{MayWrite}
 use Rattle.chain.proofs.Readied.{ready-linked}
 use Rattle.settle.specs.Settle.{MaySettle, settled}
 use Rattle.edit.specs.Edit.{withLinks, MayUnlink}
-use Rattle.edit.specs.Cleared.{cleared}
+use Rattle.edit.specs.Cleared.{clearedTo, cleared}
 use Rattle.edit.proofs.Around.{Turn, turn-out, links-hold, Around, past-sib, around-settle, around-wf}
 
 -- the state with the cell out of the chains of its marks, then with no cell there, then with no siblings of it
@@ -39,65 +43,67 @@ emptied m c = withBody (parted m c) c noCell
 abbrev pub gone : Map → ℕ → State
 gone m c = cleared (emptied m c) c
 
--- one of four, or what stood there, is 0
-four-zero : (p q r t : Bool) (x : ℕ) → (p ≡ false → q ≡ false → r ≡ false → t ≡ false → x ≡ 0) → cond p 0 (cond q 0 (cond r 0 (cond t 0 x))) ≡ 0
-four-zero true q r t x f = refl
-four-zero false true r t x f = refl
-four-zero false false true t x f = refl
-four-zero false false false true x f = refl
-four-zero false false false false x f = f refl refl refl refl
-
 module _ (s : State) (c h : ℕ) where
   -- the siblings of the cell are cleared
-  cleared-own : h / 8 ≡ c → (4 ≤ h % 8 → s .sib h ≡ 0) → cleared s c .sib h ≡ 0
-  unfolding withSib
-  cleared-own q past =
-      four-zero (eqb (8 * c + 3) h) (eqb (8 * c + 2) h) (eqb (8 * c + 1) h) (eqb (8 * c) h) (s .sib h)
-      (λ d e f g.
-      let n3 = eqb-false (8 * c + 3) h d in
-      let n2 = eqb-false (8 * c + 2) h e in
-      let n1 = eqb-false (8 * c + 1) h f in
-      let n0 = eqb-false (8 * c) h g in
-      past (omega arith))
+  cleared-own : h / 8 ≡ c → (6 ≤ h % 8 → s .sib h ≡ 0) → cleared s c .sib h ≡ 0
+  unfolding clearedTo
+  cleared-own q past = rw (eq-eqb (h / 8) c q) (go (decLt (h % 8) 6))
+    where
+      go : Dec (h % 8 < 6) → cond (ltb (h % 8) 6) 0 (s .sib h) ≡ 0
+      go (yes l) = rw (lt-ltb (h % 8) 6 l)
+      go (no f) = rw (le-ltb (h % 8) 6 (omega arith)) (past (omega arith))
 
   -- and no others
   cleared-other : (h / 8 ≡ c → ⊥) → cleared s c .sib h ≡ s .sib h
-  unfolding withSib
-  cleared-other n =
-      rw (
-        ne-eqb (8 * c + 3) h (λ z. n (omega arith)),
-        ne-eqb (8 * c + 2) h (λ z. n (omega arith)),
-        ne-eqb (8 * c + 1) h (λ z. n (omega arith)),
-        ne-eqb (8 * c) h (λ z. n (omega arith)),
-      )
+  unfolding clearedTo
+  cleared-other n = rw (ne-eqb (h / 8) c n)
 
--- the sibling of one half-facet is written
-abbrev SibStep : Caps → List ℕ → List ℕ → ℕ → ℕ → Type 0
-SibStep caps w w′ h x = Step caps w w′ (λ s. (h / 8 < caps .cells) × (h % 8 < 4)) (λ s. withSib s h x)
+-- one after another
+with-sibs : State → (ℕ → ℕ) → State
+with-sibs s sib = record { at = s .at; chain = s .chain; sib = sib; anc = s .anc; count = s .count }
 
-sib-at : (caps : Caps) (w w′ : List ℕ) (h k x : ℕ) → h ≡ k → x ≡ 0 → SibStep caps w w′ h x → SibStep caps w w′ k 0
-sib-at caps w w′ h k x e z a = subst (SibStep caps w w′ k) z (subst (λ (i : ℕ). SibStep caps w w′ i x) e a)
+none-cleared : (s : State) (c : ℕ) → clearedTo s c 0 ≡ s
+unfolding clearedTo with-sibs
+none-cleared s c = ap (with-sibs s) (fun-ext (λ h. rw (le-ltb (h % 8) 0 (omega arith)) (go (eqb (h / 8) c) h)))
+  where
+    go : (b : Bool) (h : ℕ) → cond (b && false) 0 (s .sib h) ≡ s .sib h
+    go true h = refl
+    go false h = refl
 
-module _ (caps : Caps) (c x : ℕ) (w w0 w1 w2 w3 : List ℕ) where
-  -- four of them, one after another
-  pub cleared-step : (h0 h1 h2 h3 : ℕ) → h0 ≡ 8 * c → h1 ≡ 8 * c + 1 → h2 ≡ 8 * c + 2 → h3 ≡ 8 * c + 3 → x ≡ 0
-      → SibStep caps w w0 h0 x → SibStep caps w0 w1 h1 x → SibStep caps w1 w2 h2 x → SibStep caps w2 w3 h3 x
-      → Step caps w w3 (λ s. c < caps .cells) (λ s. cleared s c)
-  cleared-step h0 h1 h2 h3 e0 e1 e2 e3 z a0 a1 a2 a3 = record {
-    inside = only-then (a0 .inside) (only-then (a1 .inside) (only-then (a2 .inside) (a3 .inside)));
-    state = λ s p l.
-        sib-at caps w2 w3 h3 (8 * c + 3) x e3 z a3 .state _
-        (sib-at caps w1 w2 h2 (8 * c + 2) x e2 z a2 .state _
-        (sib-at caps w0 w1 h1 (8 * c + 1) x e1 z a1 .state _
-        (sib-at caps w w0 h0 (8 * c) x e0 z a0 .state s p (omega arith, omega arith)) (omega arith, omega arith)) (omega arith, omega arith))
-        (omega arith, omega arith);
+one-more : (s : State) (c k : ℕ) → k < 8 → withSib (clearedTo s c k) (8 * c + k) 0 ≡ clearedTo s c (k + 1)
+unfolding clearedTo withSib with-sibs
+one-more s c k l = ap (with-sibs s) (fun-ext (λ h. go h (ℕ-discrete (h / 8) c) (ℕ-discrete (h % 8) k)))
+  where
+    go : (h : ℕ) → Dec (h / 8 ≡ c) → Dec (h % 8 ≡ k)
+        → cond (eqb (8 * c + k) h) 0 (cond (eqb (h / 8) c && ltb (h % 8) k) 0 (s .sib h)) ≡ cond (eqb (h / 8) c && ltb (h % 8) (k + 1)) 0 (s .sib h)
+    go h (no n) d = rw (ne-eqb (8 * c + k) h (λ z. n (omega arith)), ne-eqb (h / 8) c n)
+    go h (yes q) (yes e) = rw (eq-eqb (8 * c + k) h (omega arith), eq-eqb (h / 8) c q, lt-ltb (h % 8) (k + 1) (omega arith))
+    go h (yes q) (no f) = rw (ne-eqb (8 * c + k) h (λ z. f (omega arith)), eq-eqb (h / 8) c q) (past (decLt (h % 8) k))
+      where
+        past : Dec (h % 8 < k) → cond (ltb (h % 8) k) 0 (s .sib h) ≡ cond (ltb (h % 8) (k + 1)) 0 (s .sib h)
+        past (yes i) = rw (lt-ltb (h % 8) k i, lt-ltb (h % 8) (k + 1) (omega arith))
+        past (no g) = rw (le-ltb (h % 8) k (omega arith), le-ltb (h % 8) (k + 1) (omega arith))
+
+module _ (caps : Caps) (c : ℕ) (w : List ℕ) where
+  pub clears-start : Step caps w w (λ s. c < caps .cells) (λ s. clearedTo s c 0)
+  clears-start = record { inside = only-none; state = λ s p l. subst (λ (x : State). Pic w caps x) (sym (none-cleared s c)) p }
+
+  pub clears-more : (w′ w″ : List ℕ) (k h x : ℕ) → Step caps w w′ (λ s. c < caps .cells) (λ s. clearedTo s c k) → h ≡ halfOf (c % 65536) (k % 8) → x ≡ 0
+      → Step caps w′ w″ (λ s. (h / 8 < caps .cells) × (h % 8 < 6)) (λ s. withSib s h x) → k < 6 → Step caps w w″ (λ s. c < caps .cells) (λ s. clearedTo s c (k + 1))
+  unfolding halfOf
+  clears-more w′ w″ k h x a e z b l = record {
+    inside = only-then (a .inside) (b .inside);
+    state = λ s p i.
+        let here : h ≡ 8 * c + k = omega (arith, e, p .cells) in
+        subst (λ (x : State). Pic w″ caps x) (ap₂ (withSib (clearedTo s c k)) here z ∙ one-more s c k (omega arith))
+        (b .state (clearedTo s c k) (a .state s p i) (omega (arith, here), omega (arith, here)));
   }
 
 module _ (m : Map) (s : Sound m) (c : ℕ) (r : MayRemove m c) where
-  pub may-unlink : MayUnlink (capsOf m) c (m .at c .marks) (stateOf m)
-  unfolding capsOf stateOf mapWith holds
+  pub may-unlink : MayUnlink (m .caps) c (m .at c .marks) (stateOf m)
+  unfolding stateOf mapWith holds
   may-unlink = record {
-    linked = ready-linked (capsOf m) (stateOf m) (record { sound = s; chains = λ v k. refl });
+    linked = ready-linked (m .caps) (stateOf m) (record { sound = s; chains = λ v k. refl });
     cell = r .number;
     corners = refl;
     inside = λ v e. s .inside v c e;
@@ -114,20 +120,21 @@ module _ (m : Map) (s : Sound m) (c : ℕ) (r : MayRemove m c) where
       links-hold m (changed m (Remove c)) c (m .at c .marks) false (turn .apart) (turn .free)
       (λ v e. rw (more-remove m s c r .before)) (stateOf m) (λ v k. refl)
 
-  pub may-write : MayWrite (capsOf m) c [] (parted m c)
-  unfolding capsOf
+  pub may-write : MayWrite (m .caps) c [] (ltb 4 (length (m .at c .marks))) (parted m c)
+  unfolding withLinks stateOf
   may-write = record {
     cell = r .number;
-    corners = omega arith;
     loose = λ v. links v c ∙ none-holds (changed m (Remove c)) c (more-remove m s c r .before) v;
+    near = λ e. (ltb-false 4 (length (m .at c .marks)) e, omega arith);
+    all = λ e. inr refl;
   }
 
-  pub same-map : mapWith (capsOf m) (gone m c) ≡ changed m (Remove c)
-  unfolding mapWith capsOf withLinks withBody withSib stateOf changed
+  pub same-map : mapWith (m .caps) (gone m c) ≡ changed m (Remove c)
+  unfolding mapWith withLinks withBody clearedTo stateOf changed put
   same-map = refl
 
-  around : Around (capsOf m) m c (gone m c)
-  unfolding withLinks withBody withSib stateOf
+  around : Around (m .caps) m c (gone m c)
+  unfolding withLinks withBody clearedTo stateOf
   around = record {
     chains = λ v k. rw same-map (links v k);
     own = λ h q. cleared-own (emptied m c) c h q (λ l. past-sib m h l);
@@ -136,18 +143,18 @@ module _ (m : Map) (s : Sound m) (c : ℕ) (r : MayRemove m c) where
     counts = λ u. refl;
   }
 
-  pub may-settle : MaySettle (capsOf m) table (m .at c .code) (m .at c .marks) (gone m c)
-  may-settle = around-settle (capsOf m) m c (m .at c .code) (m .at c .marks) (gone m c) (rw same-map turn) around
+  pub may-settle : MaySettle (m .caps) table (m .at c .code) (m .at c .marks) (gone m c)
+  may-settle = around-settle (m .caps) m c (m .at c .code) (m .at c .marks) (gone m c) (rw same-map turn) around
 
-  pub may-count : (1 ≤ m .at c .code) × (m .at c .code ≤ 4)
+  pub may-count : (1 ≤ m .at c .code) × (m .at c .code ≤ mostCode)
   unfolding dimensionAt
-  may-count = four-types (m .at c .code) (s .typed c (r .live))
+  may-count = type-code (m .at c .code) (s .typed c (r .live))
 
   pub removed : (w : List ℕ)
-      → Pic w (capsOf m) (withCount (settled (capsOf m) (gone m c)) (m .at c .code) (length (cellsOf m (m .at c .code)) - 1))
+      → Pic w (m .caps) (withCount (settled (m .caps) (gone m c)) (m .at c .code) (length (cellsOf m (m .at c .code)) - 1))
       → Wf w (changed m (Remove c))
   removed w p =
       let fewer : length (cellsOf (changed m (Remove c)) (m .at c .code)) ≡ length (cellsOf m (m .at c .code)) - 1
       = omega (arith, count-remove m s c r) in
       rw same-map at
-      (around-wf (capsOf m) m c (m .at c .code) (m .at c .marks) (gone m c) (rw same-map turn) around w (rw (same-map, fewer) p))
+      (around-wf (m .caps) m c (m .at c .code) (m .at c .marks) (gone m c) (rw same-map turn) around w (rw (same-map, fewer) p))

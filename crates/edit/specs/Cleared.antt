@@ -1,8 +1,19 @@
 -- A cell that has gone has no siblings.
-use Prim.Native.Nat.{ℕ, _+_, _*_}
+use mathlib.Core.Bool.{cond, _&&_}
+use Prim.Native.Nat.{ℕ, _/_, _%_}
+use lib.Dec.{eqb, ltb}
+use Rattle.shapes.specs.Sizes.{mostFacets}
 use Rattle.picture.specs.State.{State}
-use Rattle.picture.specs.Changes.{withSib}
 
--- 0 for the siblings of the half-facets of a cell
+-- 0 for the siblings of the first k half-facets of a cell; of all
+unfoldable pub clearedTo : State → ℕ → ℕ → State
+clearedTo s c k = record {
+  at = s .at;
+  chain = s .chain;
+  sib = λ h. cond (eqb (h / 8) c && ltb (h % 8) k) 0 (s .sib h);
+  anc = s .anc;
+  count = s .count;
+}
+
 abbrev pub cleared : State → ℕ → State
-cleared s c = withSib (withSib (withSib (withSib s (8 * c) 0) (8 * c + 1) 0) (8 * c + 2) 0) (8 * c + 3) 0
+cleared s c = clearedTo s c mostFacets

@@ -11,7 +11,7 @@ use Rattle.numbers.specs.declared.Caps.{Caps}
 use Rattle.store.specs.Layout.{room}
 use Rattle.map.specs.Cells.{Map}
 use Rattle.map.specs.History.{Edit, editAnswer, changed}
-use Rattle.picture.specs.State.{State, capsOf}
+use Rattle.picture.specs.State.{State}
 use Rattle.picture.specs.Picture.{Wf, chainOf}
 use Rattle.chain.specs.Chain.{Linked}
 
@@ -45,4 +45,4 @@ pub record MayUnlink (caps : Caps) (c : ℕ) (marks : List ℕ) (s : State) : Ty
 -- an edit that the map accepts, made: the words of the edited map, and nothing beyond the room
 pub record Made (caps : Caps) (w w′ : List ℕ) (e : Edit) : Type 0 where
   pub inside : Only (λ i. i < room (caps .marks) (caps .cells)) w w′
-  pub wf : (m : Map) → capsOf m ≡ caps → Wf w m → editAnswer m e .refusal ≡ 0 → Wf w′ (changed m e)
+  pub wf : (m : Map) → m .caps ≡ caps → Wf w m → editAnswer m e .refusal ≡ 0 → Wf w′ (changed m e)

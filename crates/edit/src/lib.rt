@@ -4,7 +4,7 @@
 // the siblings of its half-facets. All are total on any memory. What is proved: on the picture of a state that allows the step
 // (`MayLink`, `MayUnlink`) what is left is the picture of the state so changed, and on any memory nothing beyond the room changes; the
 // laws of a whole insertion and a whole removal are in proofs/Inserts.antt and proofs/Removes.antt. What a caller should know: only the
-// first four marks are read, and no type has more; the body is written before the chains, and taken after them.
+// first eight marks are read, and no type has more; the body is written before the chains, and taken after them.
 ghost use mathlib.Core.Bool.{true, false};
 ghost use Prim.Native.Nat.{_<_};
 ghost use Rattle.picture.specs.Step.{Step};
@@ -13,47 +13,50 @@ ghost use Rattle.edit.specs.Cleared.{cleared};
 use chain::splice;
 use chain::unsplice;
 use numbers::Caps;
-use sibling::put_sibling;
+use numbers::Cell;
+use numbers::Half;
+use numbers::Mark;
+use numbers::half_of;
+use picture::put_sibling;
+use shapes::MOST_FACETS;
+use shapes::MOST_MARKS;
 use words::word;
 
 // The cell c, whose marks these are, put into the chain of each.
-pub fn link_all(w: &mut [u32], caps: Caps, c: u32, marks: &[u32])
-    ensures { λ _. ⌜ Step caps (now (w .entry)) (now (w .exit)) (MayLink caps c (now (marks .entry))) (λ s. withLinks s c (now (marks .entry)) true) ⌝ }
+pub fn link_all(w: &mut [u32], caps: Caps, c: Cell, marks: &[u32])
+    ensures { λ _. ⌜ Step caps (now (w .entry)) (now (w .exit)) (MayLink caps (c .0) (now (marks .entry))) (λ s. withLinks s (c .0) (now (marks .entry)) true) ⌝ }
 {
     let mut k: u32 = 0;
-    while k < 4 {
+    while k < MOST_MARKS {
         if marks.len() <= k as usize {
             return;
         }
-        splice(w, caps, word(marks, k as usize), k, c);
+        splice(w, caps, Mark(word(marks, k as usize)), k, c);
         k += 1;
     }
 }
 
 // The cell c, whose marks these are, taken out of the chain of each.
-pub fn unlink_all(w: &mut [u32], caps: Caps, c: u32, marks: &[u32])
-    ensures { λ _. ⌜ Step caps (now (w .entry)) (now (w .exit)) (MayUnlink caps c (now (marks .entry))) (λ s. withLinks s c (now (marks .entry)) false) ⌝ }
+pub fn unlink_all(w: &mut [u32], caps: Caps, c: Cell, marks: &[u32])
+    ensures { λ _. ⌜ Step caps (now (w .entry)) (now (w .exit)) (MayUnlink caps (c .0) (now (marks .entry))) (λ s. withLinks s (c .0) (now (marks .entry)) false) ⌝ }
 {
     let mut k: u32 = 0;
-    while k < 4 {
+    while k < MOST_MARKS {
         if marks.len() <= k as usize {
             return;
         }
-        unsplice(w, caps, word(marks, k as usize), k, c);
+        unsplice(w, caps, Mark(word(marks, k as usize)), k, c);
         k += 1;
     }
 }
 
 // The siblings of the half-facets of the cell c, cleared.
-pub fn clear_siblings(w: &mut [u32], caps: Caps, c: u32)
-    ensures { λ _. ⌜ Step caps (now (w .entry)) (now (w .exit)) (λ s. c < caps .cells) (λ s. cleared s c) ⌝ }
+pub fn clear_siblings(w: &mut [u32], caps: Caps, c: Cell)
+    ensures { λ _. ⌜ Step caps (now (w .entry)) (now (w .exit)) (λ s. c .0 < caps .cells) (λ s. cleared s (c .0)) ⌝ }
 {
-    if 65536 <= c {
-        return;
+    let mut f: u32 = 0;
+    while f < MOST_FACETS {
+        put_sibling(w, caps, half_of(c, f), Half(0));
+        f += 1;
     }
-    let half = 8 * c;
-    put_sibling(w, caps, half, 0);
-    put_sibling(w, caps, half + 1, 0);
-    put_sibling(w, caps, half + 2, 0);
-    put_sibling(w, caps, half + 3, 0);
 }

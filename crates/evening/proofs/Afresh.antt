@@ -1,5 +1,5 @@
 -- What a story leaves is what a mesh of the same capacities is, built afresh from its live cells in any order.
-use mathlib.Core.Path.{_≡_, sym, ap, _∙_}
+use mathlib.Core.Path.{_≡_, sym, ap, _∙_, subst}
 use mathlib.Core.List.{List, []}
 use Prim.Native.Nat.{ℕ, _<_, _≤_}
 use native.Mathlib.Decide.{decLt}
@@ -8,24 +8,23 @@ use lib.ListN.{getD, length, take}
 use lib.Seq.{ext-getD, getD-take}
 use Rattle.numbers.specs.Room.{room}
 use Rattle.words.specs.Words.{Only}
-use Rattle.map.specs.Cells.{Live, Map, mapOf}
+use Rattle.numbers.specs.declared.Caps.{Caps}
+use Rattle.map.specs.Cells.{Live, Map, liveCells}
 use Rattle.map.specs.Answers.{Check, Answer, _when_, answer, formatChecks}
-use Rattle.map.specs.History.{Mesh, mapIn, build}
-use Rattle.map.specs.Paper.{given, builtSays}
+use Rattle.map.specs.Says.{given, builtSays}
 use Rattle.map.specs.declared.Built.{Built}
 use Rattle.map.specs.declared.Built.the-variants.{Accepted}
 use Rattle.map.specs.declared.Value.{Value}
-use Rattle.map.proofs.Paper.{value-one, built-one}
+use Rattle.map.proofs.Says.{value-one, built-one}
 use Rattle.laws.proofs.Orders.{Shuffled}
 use Rattle.laws.proofs.Rebuild.{buildWords, afresh-built}
-use Rattle.picture.specs.State.{capsOf}
 use Rattle.picture.specs.Picture.{Wf}
 use Rattle.picture.proofs.Put.{wf-one}
 use Rattle.ask.specs.Asked.{Asked, Handed}
 use Rattle.listing.specs.Listing.{Listing}
 use Rattle.build.specs.Builds.{placed, formatRefusal, buildAnswer, Builds}
 use Rattle.evening.specs.Story.{Story}
-use Rattle.evening.proofs.Stories.{Left, story-wf, story-left}
+use Rattle.evening.proofs.Stories.{story-wf}
 
 -- two well-formed memories of one map answer every query alike
 module _ {a b : List ℕ} {m : Map} (x : Wf a m) (y : Wf b m) where
@@ -44,40 +43,32 @@ module _ {a b : List ℕ} {m : Map} (x : Wf a m) (y : Wf b m) where
       (value-one r r′ (u .0 ∙ sym (v .0)), u .1 ∙ sym (v .1))
 
 -- a format of capacities within the limits in memory as long as the room is accepted
-format-good : (words marks cells : ℕ) → marks ≤ 65535 → cells ≤ 65535 → room marks cells ≤ words → formatRefusal words marks cells ≡ 0
+format-good : (words : ℕ) (caps : Caps) → caps .marks ≤ 65535 → caps .cells ≤ 65535 → room (caps .marks) (caps .cells) ≤ words
+    → formatRefusal words caps ≡ 0
 unfolding formatRefusal formatChecks _when_ answer
-format-good words marks cells p q fits =
-    let passed : answer (formatChecks words marks cells) [] ≡ record { refusal = 0; values = [] } =
-    rw (le-ltb 65535 marks p, le-ltb 65535 cells q, le-ltb words (room marks cells) fits) in
+format-good words caps p q fits =
+    let passed : answer (formatChecks words caps) [] ≡ record { refusal = 0; values = [] } =
+    rw (le-ltb 65535 (caps .marks) p, le-ltb 65535 (caps .cells) q, le-ltb words (room (caps .marks) (caps .cells)) fits) in
     ap (λ (a : Answer). a .refusal) passed
 
--- a build of the live cells of a mesh that edits leave, in any order, is accepted and leaves its map
-left-afresh : (m : Mesh) → Left (m .marks) (m .cells) m → (other : List Live) → Shuffled (m .live) other
-    → (build (m .marks) (m .cells) (buildWords other) .refusal ≡ 0) × (mapIn (build (m .marks) (m .cells) (buildWords other) .mesh) ≡ mapIn m)
-left-afresh m l other s =
-    let r = afresh-built (m .marks) (m .cells) (l .0) other (rw (ap (λ (n : Mesh). n .live) (l .1)) at s) in
-    (r .0, r .1 ∙ ap mapIn (sym (l .1)))
-
-module _ {w : List ℕ} {mesh : Mesh} (s : Story w mesh) (other : List Live) (order : Shuffled (mesh .live) other) {b b′ : List ℕ} {r : Built}
-    (builds : Builds b (mesh .marks) (mesh .cells) (buildWords other) r b′) (fits : room (mesh .marks) (mesh .cells) ≤ length b) where
+module _ {w : List ℕ} {m : Map} (s : Story w m) (other : List Live) (order : Shuffled (liveCells m) other) {b b′ : List ℕ} {r : Built}
+    (builds : Builds b (m .caps) (buildWords other) r b′) (fits : room (m .caps .marks) (m .caps .cells) ≤ length b) where
   -- the capacities and the memory are good
-  good : formatRefusal (length b) (mesh .marks) (mesh .cells) ≡ 0
-  unfolding mapIn mapOf capsOf
-  good = format-good (length b) (mesh .marks) (mesh .cells) (story-wf s .picture .marks) (story-wf s .picture .cells) fits
+  good : formatRefusal (length b) (m .caps) ≡ 0
+  good = format-good (length b) (m .caps) (story-wf s .picture .marks) (story-wf s .picture .cells) fits
 
   -- the build is accepted
   pub afresh-accepted : r ≡ Accepted
   unfolding buildAnswer placed builtSays given
-  afresh-accepted = built-one r Accepted (builds .says ∙ rw (good, left-afresh mesh (story-left s) other order .0))
+  afresh-accepted = built-one r Accepted (builds .says ∙ rw (good, afresh-built m (story-wf s .sound) other order .0))
 
   -- it leaves well-formed memory of the same map
-  pub afresh-wf : Wf b′ (mapIn mesh)
-  afresh-wf = rw (left-afresh mesh (story-left s) other order .1) at (builds .wf good)
+  pub afresh-wf : Wf b′ m
+  afresh-wf = subst (λ (k : Map). Wf b′ k) (afresh-built m (story-wf s .sound) other order .1) (builds .wf good)
 
   -- so the same words, all over the room
-  pub afresh-words : take (room (mesh .marks) (mesh .cells)) b′ ≡ take (room (mesh .marks) (mesh .cells)) w
-  unfolding mapIn mapOf
-  afresh-words = wf-one b′ w (mapIn mesh) afresh-wf (story-wf s)
+  pub afresh-words : take (room (m .caps .marks) (m .caps .cells)) b′ ≡ take (room (m .caps .marks) (m .caps .cells)) w
+  afresh-words = wf-one b′ w m afresh-wf (story-wf s)
 
   -- and every query answers on both alike
   pub afresh-asked : {A : Type 0} {says : A → Answer} {noMesh : A} {answer : Map → Answer} {x y : A}
@@ -102,8 +93,7 @@ only-same n a b only e = ext-getD 0 b a (only .size) (λ i h. go i (decLt i n))
     go i (no f) = only .same i f
 
 -- the evening's rebuild in the afternoon's own memory, from its live cells in any order, leaves every word as it was
-pub rebuilt-in-place : {w w′ : List ℕ} {mesh : Mesh} {r : Built} → Story w mesh → (other : List Live) → Shuffled (mesh .live) other
-    → Builds w (mesh .marks) (mesh .cells) (buildWords other) r w′ → w′ ≡ w
-unfolding mapIn mapOf capsOf
+pub rebuilt-in-place : {w w′ : List ℕ} {m : Map} {r : Built} → Story w m → (other : List Live) → Shuffled (liveCells m) other
+    → Builds w (m .caps) (buildWords other) r w′ → w′ ≡ w
 rebuilt-in-place {w} {w′} s other order builds =
     only-same _ w w′ (builds .inside) (afresh-words s other order builds (story-wf s .picture .fits))

@@ -13,7 +13,7 @@ use Rattle.map.specs.Cells.{Map, live, facetsAt}
 use Rattle.map.specs.Siblings.{isHalf, marksOf}
 use Rattle.map.specs.Sound.{Sound}
 use Rattle.laws.proofs.Halves.{none-facets}
-use Rattle.listing.proofs.Facets.{facet-some}
+use Rattle.laws.proofs.Facets.{facet-some}
 
 -- a half-facet is one of a live cell
 pub half-alive : (m : Map) → Sound m → (h : ℕ) → isHalf m h ≡ true → live m (h / 8) ≡ true
@@ -26,4 +26,4 @@ half-alive m s h e =
 -- and has a mark
 pub half-mark : (m : Map) → Sound m → (h : ℕ) → isHalf m h ≡ true → has (getD (marksOf m h) 0 0) (marksOf m h) ≡ true
 unfolding isHalf marksOf
-half-mark m s h e = at-has (marksOf m h) 0 (facet-some m s (h / 8) (h % 8) (half-alive m s h e) (ltb-true _ _ e))
+half-mark m s h e = at-has (marksOf m h) 0 (facet-some m (h / 8) (h % 8) (ltb-true _ _ e))

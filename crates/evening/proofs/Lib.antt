@@ -2,6 +2,7 @@
 pub mod Stories
 pub mod Afresh
 pub mod Halves
+pub mod Words
 pub mod Kept
 pub mod Records
 pub mod Walks

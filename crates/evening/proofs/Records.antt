@@ -12,16 +12,20 @@ use lib.ListN.{getD, length, take}
 use Rattle.lists.specs.Lists.{any}
 use Rattle.lists.proofs.Bools.{clash, or-left, or-right}
 use Rattle.numbers.specs.Half.{halfOf}
+use Rattle.numbers.proofs.Inverse.{half-cell, half-facet}
 use Rattle.shapes.specs.Shapes.{facetCount}
-use Rattle.store.specs.Layout.{markAt, cellAt, Head, address}
+use Rattle.shapes.specs.Sizes.{mostFacets, mostCode}
+use Rattle.shapes.proofs.Facts.{facts}
+use Rattle.store.specs.Layout.{markAt, nearAt}
+use Rattle.store.specs.Fields.{Count, Anchor, markPlace, Place, InNear, InFar, Code, Sib, cellPlace}
+use Rattle.store.specs.Slots.{InHead, InCell, placeAt, address, read}
 use Rattle.map.specs.Cells.{Map, live, cellsOf}
 use Rattle.map.specs.Siblings.{sibling}
 use Rattle.map.specs.Stars.{anchors}
 use Rattle.map.specs.Answers.{Check, Answer, _when_, answer, cellChecks, halfChecks, starChecks, siblingAnswer, firstAnchorAnswer}
-use Rattle.picture.specs.State.{next, capsOf, stateOf}
+use Rattle.picture.specs.State.{next, stateOf}
 use Rattle.picture.specs.Picture.{Wf}
-use Rattle.picture.proofs.Writers.{count-word}
-use Rattle.shapes.proofs.Today.{four-facets}
+use Rattle.picture.proofs.Record.{count-read}
 use Rattle.checks.proofs.Rows.{code-of}
 use Rattle.ask.proofs.Words.{sibling-is, anchor-is}
 
@@ -48,31 +52,47 @@ moot (x ∷ checks) a b e = go (x .fails) e (moot checks a b)
     go true e f = refl
     go false e f = f e
 
+-- which word of its part a place is
+wordIn : Place → ℕ
+wordIn (InNear k) = k
+wordIn (InFar k) = k
+
+-- the sibling of each facet of a cell stands in its record
+sibling-in : {w : List ℕ} {m : Map} → Wf w m → (c : ℕ) → c < m .caps .cells → (f : ℕ) → f < facetCount (m .at c .code)
+    → (f < mostFacets) × (read w (m .caps) (InCell c (Sib f)) ≡ sibling m (halfOf c f))
+unfolding facetCount
+sibling-in {w} {m} wf c below f h =
+    let few : f < mostFacets = omega (arith, facts (m .at c .code) .facets) in
+    (few, rw (half-cell c f (omega arith), half-facet c f (omega arith)) at (sibling-is w (m .caps) m refl wf c f below h))
+
 module _ {w w′ : List ℕ} {m m′ : Map} (wf : Wf w m) (wf′ : Wf w′ m′) where
-  -- one cell number, below both capacities, with the same 16 words in both records
-  module _ (c : ℕ) (below : c < m .cells) (below′ : c < m′ .cells)
-      (same : (k : ℕ) → k < 16 → getD w (cellAt (m .marks) c + k) 0 ≡ getD w′ (cellAt (m′ .marks) c + k) 0) where
+  -- one cell number, below both capacities, with the same 16 words in the first part of both records
+  module _ (c : ℕ) (below : c < m .caps .cells) (below′ : c < m′ .caps .cells)
+      (same : (k : ℕ) → k < 16 → getD w (nearAt (m .caps .marks) c + k) 0 ≡ getD w′ (nearAt (m′ .caps .marks) c + k) 0) where
     -- the cell is of one type in both
     pub code-fixed : m .at c .code ≡ m′ .at c .code
-    unfolding capsOf
-    code-fixed = sym (code-of (capsOf m) m refl w wf c below) ∙ (same 0 (omega arith) ∙ code-of (capsOf m′) m′ refl w′ wf′ c below′)
+    unfolding read address placeAt cellPlace wordIn
+    code-fixed =
+        sym (code-of (m .caps) m refl w wf c below)
+        ∙ (same (wordIn (cellPlace Code)) (omega arith) ∙ code-of (m′ .caps) m′ refl w′ wf′ c below′)
 
     -- and each of its facets has the same sibling in both
     pub sibling-fixed : (f : ℕ) → f < facetCount (m .at c .code) → sibling m (halfOf c f) ≡ sibling m′ (halfOf c f)
-    unfolding capsOf facetCount
+    unfolding read address placeAt cellPlace wordIn
     sibling-fixed f h =
-        sym (sibling-is w (capsOf m) m refl wf c f below h)
-        ∙ (same (5 + f) (omega (arith, four-facets (m .at c .code))) ∙ sibling-is w′ (capsOf m′) m′ refl wf′ c f below′ (rw (← code-fixed) h))
+        let here = sibling-in wf c below f h in
+        let there = sibling-in wf′ c below′ f (rw (← code-fixed) h) in
+        sym (here .1) ∙ (same (wordIn (cellPlace (Sib f))) (omega (arith, here .0)) ∙ there .1)
 
     -- the checks of a half-facet come out the same
     checks-fixed : (f : ℕ) → halfChecks m c f ≡ halfChecks m′ c f
     unfolding halfChecks cellChecks live
-    checks-fixed f = rw (lt-leb (m .cells) c below, lt-leb (m′ .cells) c below′, code-fixed)
+    checks-fixed f = rw (lt-leb (m .caps .cells) c below, lt-leb (m′ .caps .cells) c below′, code-fixed)
 
     -- a facet number that is too high fails one
     facet-fails : (f : ℕ) → leb (facetCount (m .at c .code)) f ≡ true → any (λ (x : Check). x .fails) (halfChecks m c f) ≡ true
     unfolding halfChecks cellChecks _when_ any
-    facet-fails f e = or-right (leb (m .cells) c) _ (or-right (not (live m c)) _ (or-left _ _ e))
+    facet-fails f e = or-right (leb (m .caps .cells) c) _ (or-right (not (live m c)) _ (or-left _ _ e))
 
     -- so the sibling query answers the same for every facet number
     pub sibling-answer-fixed : (f : ℕ) → siblingAnswer m c f ≡ siblingAnswer m′ c f
@@ -86,19 +106,20 @@ module _ {w w′ : List ℕ} {m m′ : Map} (wf : Wf w m) (wf′ : Wf w′ m′)
             ∙ ap (λ (checks : List Check). answer checks (sibling m′ (halfOf c f) ∷ [])) (checks-fixed f)
 
   -- one mark number, below both capacities, with the same 8 words in both records
-  module _ (v : ℕ) (below : v < m .marks) (below′ : v < m′ .marks)
+  module _ (v : ℕ) (below : v < m .caps .marks) (below′ : v < m′ .caps .marks)
       (same : (k : ℕ) → k < 8 → getD w (markAt v + k) 0 ≡ getD w′ (markAt v + k) 0) where
     -- the mark has the same first anchor in both, or none in both, in each dimension
     pub first-anchor-fixed : (d : ℕ) → 1 ≤ d → d ≤ 3 → take 1 (anchors m d v) ≡ take 1 (anchors m′ d v)
+    unfolding read address markPlace
     first-anchor-fixed d low high =
         next-one (anchors m d v) (anchors m′ d v)
-        (sym (anchor-is w (capsOf m) m refl wf d v low high below)
-        ∙ (same (1 + d) (omega arith) ∙ anchor-is w′ (capsOf m′) m′ refl wf′ d v low high below′))
+        (sym (anchor-is w (m .caps) m refl wf d v low high below)
+        ∙ (same (markPlace (Anchor d)) (omega arith) ∙ anchor-is w′ (m′ .caps) m′ refl wf′ d v low high below′))
 
     -- the checks of a mark and a dimension come out the same
     dimension-fixed : (d : ℕ) → starChecks m d v ≡ starChecks m′ d v
     unfolding starChecks
-    dimension-fixed d = rw (lt-leb (m .marks) v below, lt-leb (m′ .marks) v below′)
+    dimension-fixed d = rw (lt-leb (m .caps .marks) v below, lt-leb (m′ .caps .marks) v below′)
 
     -- a dimension that is not 1 to 3 fails one
     dimension-fails : (d : ℕ) → ltb d 1 || ltb 3 d ≡ true → any (λ (x : Check). x .fails) (starChecks m d v) ≡ true
@@ -121,6 +142,6 @@ module _ {w w′ : List ℕ} {m m′ : Map} (wf : Wf w m) (wf′ : Wf w′ m′)
         go (no a) (no b) = ap₂ answer (dimension-fixed d) (first-anchor-fixed d (omega arith) (omega arith))
 
 -- the live count of each type in the head is the length of the defined list
-pub count-listed : {w : List ℕ} {m : Map} → Wf w m → (t : ℕ) → 1 ≤ t → t ≤ 4 → getD w (4 + t) 0 ≡ length (cellsOf m t)
-unfolding address stateOf
-count-listed {w} {m} wf t low high = wf .picture .words (Head (4 + t)) (omega arith) ∙ count-word (capsOf m) (stateOf m) t 0 low high
+pub count-listed : {w : List ℕ} {m : Map} → Wf w m → (t : ℕ) → 1 ≤ t → t ≤ mostCode → read w (m .caps) (InHead (Count t)) ≡ length (cellsOf m t)
+unfolding stateOf
+count-listed {w} {m} wf t low high = count-read w (m .caps) (stateOf m) (wf .picture) t low high

@@ -12,17 +12,18 @@ use Rattle.shapes.specs.Shapes.{facetCount}
 use Rattle.map.specs.Cells.{Map, facetsAt}
 use Rattle.map.specs.Siblings.{isHalf, Half, siblings, sibling, walk}
 use Rattle.map.specs.Answers.{Answer, _when_, answer, cellChecks, halfChecks, siblingAnswer, stepAnswer}
-use Rattle.map.specs.History.{Edit, editedMap}
-use Rattle.map.specs.Paper.{given, stepSays}
-use Rattle.map.specs.declared.Step.{Step}
-use Rattle.map.specs.declared.Step.the-variants.{Next}
+use Rattle.map.specs.History.{Edit, edited}
+use Rattle.map.specs.Says.{given}
 use Rattle.map.specs.declared.Verdict.{Verdict}
-use Rattle.map.specs.declared.Walker.{Walker}
-use Rattle.map.proofs.Paper.{step-one}
 use Rattle.map.specs.Sound.{Sound}
 use Rattle.laws.proofs.Cycles.{siblings-live, walk-has, walk-returns, walk-not-before}
 use Rattle.picture.specs.Picture.{Wf}
-use Rattle.sibling.proofs.OnPicture.{facets-count}
+use Rattle.laws.proofs.Facets.{facets-count}
+use Rattle.ask.specs.declared.Step.{Step}
+use Rattle.ask.specs.declared.Step.the-variants.{Next}
+use Rattle.ask.specs.declared.Walker.{Walker}
+use Rattle.ask.specs.Steps.{stepSays}
+use Rattle.ask.proofs.Steps.{step-one}
 use Rattle.mesh.specs.Edited.{Edited}
 use Rattle.evening.specs.Walked.{Stepped, Walked, here, onward}
 use Rattle.evening.proofs.Halves.{half-alive}
@@ -34,7 +35,7 @@ step-given m s h x =
     let count : h % 8 < facetCount (m .at (h / 8) .code) =
     omega (arith, facets-count m (h / 8), ltb-true (h % 8) (length (facetsAt m (h / 8))) (x .facet)) in
     rw (
-      lt-leb (m .cells) (h / 8) (below-half h (m .cells) (x .below)),
+      lt-leb (m .caps .cells) (h / 8) (below-half h (m .caps .cells) (x .below)),
       half-alive m s h (x .facet),
       lt-leb (facetCount (m .at (h / 8) .code)) (h % 8) count,
       half-whole h,
@@ -86,5 +87,5 @@ module _ {w : List ℕ} {m : Map} (wf : Wf w m) where
 
 -- a step after an edit, accepted or refused, gives the sibling as it is then, or the refusal for that half-facet
 pub step-edited : {w w′ : List ℕ} {m : Map} {e : Edit} {v : Verdict} → Wf w m → Edited w e v w′ → (at : Walker) (r : Step) → Stepped w′ at r
-    → stepSays r ≡ stepAnswer (editedMap m e) (at .0 .0)
+    → stepSays r ≡ stepAnswer (edited m e) (at .0 .0)
 step-edited wf edit at r q = q .answers _ (edit .answers _ wf .1)

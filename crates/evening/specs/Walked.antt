@@ -1,11 +1,11 @@
--- Steps of a walker one after another, on one memory: each is a result of `ask::step`, and none is refused.
+-- Steps of a walker one after another, on one memory: each is a result of `ask::Walker::step`, and none is refused.
 use mathlib.Core.List.{List}
 use Prim.Native.Nat.{ℕ, zero, suc}
 use Rattle.map.specs.Answers.{stepAnswer}
-use Rattle.map.specs.Paper.{stepSays}
-use Rattle.map.specs.declared.Step.{Step}
-use Rattle.map.specs.declared.Step.the-variants.{Next}
-use Rattle.map.specs.declared.Walker.{Walker}
+use Rattle.ask.specs.declared.Step.{Step}
+use Rattle.ask.specs.declared.Step.the-variants.{Next}
+use Rattle.ask.specs.declared.Walker.{Walker}
+use Rattle.ask.specs.Steps.{stepSays}
 use Rattle.ask.specs.Asked.{Asked}
 use Rattle.ask.specs.Refusals.{noStep}
 

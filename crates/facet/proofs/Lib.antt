@@ -1,3 +1,5 @@
 -- The laws that the layers above cite.
 pub mod Copy
+pub mod Sets
+pub mod Read
 pub mod Match

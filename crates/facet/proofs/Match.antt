@@ -3,19 +3,17 @@ use mathlib.Core.Path.{_≡_, refl, sym, ap, _∙_}
 use mathlib.Core.Bool.{Bool, true, false}
 use mathlib.Core.List.{List}
 use Prim.Native.Nat.{ℕ, _+_, _<_, _≤_}
-use lib.ListN.{getD}
 use Rattle.lists.specs.Lists.{sameSet, select, first}
 use Rattle.lists.proofs.Order.{first-select}
 use Rattle.lists.proofs.Counts.{select-empty}
 use Rattle.shapes.specs.Shapes.{facetCount}
 use Rattle.numbers.specs.declared.Caps.{Caps}
-use Rattle.store.specs.Layout.{cellAt}
-use Rattle.facet.specs.Facet.{codeIn, facetIn, matchIn}
+use Rattle.store.specs.Slots.{codeIn}
+use Rattle.facet.specs.Facet.{facetIn, matchIn}
 
 module _ (w : List ℕ) (caps : Caps) (rows : List (List (List ℕ))) (c : ℕ) (set : List ℕ) (t n : ℕ)
-    (code : t ≡ getD w (cellAt (caps .marks) c + 0) 0) (count : n ≡ facetCount t) where
+    (code : t ≡ codeIn w caps c) (count : n ≡ facetCount t) where
   facets : facetCount (codeIn w caps c) ≡ n
-  unfolding codeIn
   facets = sym (count ∙ ap facetCount code)
 
   pub match-found : (f : ℕ) → ((k : ℕ) → k < f → sameSet set (facetIn w caps rows c k) ≡ false)

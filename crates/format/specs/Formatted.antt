@@ -5,17 +5,18 @@ use mathlib.Core.List.{List, []}
 use Prim.Native.Nat.{ℕ, _<_}
 use lib.ListN.{length}
 use Rattle.numbers.specs.Room.{room}
+use Rattle.numbers.specs.declared.Caps.{Caps}
 use Rattle.words.specs.Words.{Only}
 use Rattle.map.specs.Answers.{answer, formatChecks}
-use Rattle.map.specs.History.{mapIn, empty}
-use Rattle.map.specs.Paper.{verdictSays}
+use Rattle.map.specs.History.{empty}
+use Rattle.map.specs.Says.{verdictSays}
 use Rattle.map.specs.declared.Refusal.{Refusal}
 use Rattle.map.specs.declared.Verdict.{Verdict}
 use Rattle.map.specs.declared.Verdict.the-variants.{Accepted, Refused}
 use Rattle.picture.specs.Picture.{Wf}
 
-pub record Formatted (w : List ℕ) (marks cells : ℕ) (r : Verdict) (w′ : List ℕ) : Type 0 where
-  pub says : verdictSays r ≡ answer (formatChecks (length w) marks cells) []
+pub record Formatted (w : List ℕ) (caps : Caps) (r : Verdict) (w′ : List ℕ) : Type 0 where
+  pub says : verdictSays r ≡ answer (formatChecks (length w) caps) []
   pub kept : (why : Refusal) → r ≡ Refused why → w′ ≡ w
-  pub inside : Only (λ i. i < room marks cells) w w′
-  pub wf : r ≡ Accepted → Wf w′ (mapIn (empty marks cells))
+  pub inside : Only (λ i. i < room (caps .marks) (caps .cells)) w w′
+  pub wf : r ≡ Accepted → Wf w′ (empty caps)

@@ -5,11 +5,15 @@
 // (specs/Formatted.antt). What a caller should know: the cost is that of the room.
 ghost use mathlib.Core.Path.{_≡_};
 ghost use Prim.Native.Nat.{_≤_};
+ghost use Rattle.numbers.specs.Sizes.{capacities};
 ghost use Rattle.format.specs.Formatted.{Formatted};
 ghost use Rattle.format.specs.Cleared.{Cleared};
 use map::Refusal;
 use map::Verdict;
+use numbers::Caps;
 use numbers::MOST_CAPACITY;
+use store::room_of;
+use store::write_head;
 use words::put;
 
 // The first n words set to 0.
@@ -25,7 +29,7 @@ fn clear(w: &mut [u32], n: usize)
 
 // A mesh of these capacities with no live cell.
 pub fn format(w: &mut [u32], marks: u32, cells: u32) -> Verdict
-    ensures { λ r. ⌜ Formatted (now (w .entry)) marks cells r (now (w .exit)) ⌝ }
+    ensures { λ r. ⌜ Formatted (now (w .entry)) (capacities marks cells) r (now (w .exit)) ⌝ }
 {
     if MOST_CAPACITY < marks {
         return Verdict::Refused(Refusal::CapacityAbove);
@@ -33,13 +37,12 @@ pub fn format(w: &mut [u32], marks: u32, cells: u32) -> Verdict
     if MOST_CAPACITY < cells {
         return Verdict::Refused(Refusal::CapacityAbove);
     }
-    let room = 16 + 8 * (marks as usize) + 32 * (cells as usize);
+    let caps = Caps { marks, cells };
+    let room = room_of(caps);
     if w.len() < room {
         return Verdict::Refused(Refusal::MemoryShort);
     }
     clear(w, room);
-    put(w, 0, 1296780360);
-    put(w, 1, marks);
-    put(w, 2, cells);
+    write_head(w, caps);
     Verdict::Accepted
 }

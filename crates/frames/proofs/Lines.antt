@@ -14,7 +14,7 @@ use lib.ListN.{length, getD, set, List·getD-eq-default, List·getD-append}
 use lib.Seq.{sets, getD-at}
 use Rattle.lists.specs.Lists.{any, listOf}
 use Rattle.lists.proofs.Fill.{length-listOf}
-use Rattle.frames.specs.Frames.{digitOf, badLine, byteAt, bytesOf, numberAt, marksIn}
+use Rattle.frames.specs.Frames.{digitOf, badLine, byteAt, bytesOf, numberAt, marksFrom}
 use Rattle.frames.specs.Forms.{Marked}
 use Rattle.frames.proofs.Digits.{byte-most}
 
@@ -92,14 +92,14 @@ unfoldable pub markAt : List ℕ → ℕ → ℕ
 markAt line i = numberAt (bytesOf line) (4 + 2 * i)
 
 module _ (line o : List ℕ) where
-  pub marks-none : length line / 2 < 4 → Marked (marksIn (bytesOf line)) o 0 o
-  unfolding marksIn listOf
+  pub marks-none : length line / 2 < 4 → Marked (marksFrom (bytesOf line)) o 0 o
+  unfolding marksFrom listOf
   marks-none h =
       let e : (length (bytesOf line) - 4) / 2 ≡ 0 = omega (arith, bytes-length line) in
       record { count = rw e; words = rw e }
 
-  pub marks-all : (i n : ℕ) (o′ : List ℕ) → n ≡ (length line / 2 - 4) / 2 → i ≤ n → n ≤ i → o′ ≡ sets o 0 (listOf i (markAt line)) → Marked (marksIn (bytesOf line)) o n o′
-  unfolding marksIn markAt
+  pub marks-all : (i n : ℕ) (o′ : List ℕ) → n ≡ (length line / 2 - 4) / 2 → i ≤ n → n ≤ i → o′ ≡ sets o 0 (listOf i (markAt line)) → Marked (marksFrom (bytesOf line)) o n o′
+  unfolding marksFrom markAt
   marks-all i n o′ e a b g =
       let same : i ≡ n = omega arith in
       let size : (length (bytesOf line) - 4) / 2 ≡ n = omega (arith, bytes-length line) in

@@ -8,6 +8,7 @@ use borrow.Author.Tests.{le-ltb}
 use lib.Dec.{ltb}
 use lib.ListN.{length}
 use Rattle.numbers.specs.Half.{halfOf}
+use Rattle.numbers.specs.Sizes.{capacities}
 use Rattle.numbers.specs.Room.{room}
 use Rattle.map.specs.declared.Refusal.{Refusal}
 use Rattle.map.specs.declared.Refusal.the-variants.{CapacityAbove, BadFrame}
@@ -16,9 +17,9 @@ use Rattle.map.specs.declared.Verdict.the-variants.{Refused}
 use Rattle.map.specs.Cells.{Map}
 use Rattle.map.specs.Siblings.{sibling}
 use Rattle.map.specs.Stars.{star, anchors}
-use Rattle.map.specs.History.{mapIn, empty}
+use Rattle.map.specs.History.{empty}
 use Rattle.map.specs.Answers.{Check, Answer, _when_, answer, listAnswer, formatChecks, starChecks, halfChecks, siblingAnswer, starAnswer, anchorsAnswer}
-use Rattle.map.specs.Paper.{given, refused, verdictSays}
+use Rattle.map.specs.Says.{given, refused, verdictSays}
 use Rattle.frames.specs.Frames.{Format, Star, Anchors, Sibling, Bad, twoBytes, counted, cellAndFacet, replyTo, mapAfter}
 
 -- a call that gives one value tells of its checks, whatever they are asked for
@@ -63,14 +64,14 @@ module _ (m : Map) where
   reply-above marks cells e = rw e
 
   pub reply-format : (marks cells words : ℕ) (v : Verdict) → marks ≤ 384 → cells ≤ 384 → room 384 384 ≤ words
-      → verdictSays v ≡ answer (formatChecks words marks cells) [] → replyTo m (Format marks cells) ≡ verdictSays v
+      → verdictSays v ≡ answer (formatChecks words (capacities marks cells)) [] → replyTo m (Format marks cells) ≡ verdictSays v
   unfolding replyTo answer formatChecks _when_ room
   reply-format marks cells words v a b h e =
       sym
       (e
       ∙ rw (le-ltb 65535 marks (omega arith), le-ltb 65535 cells (omega arith), le-ltb words (room marks cells) (omega arith), le-ltb 384 marks a, le-ltb 384 cells b))
 
-  pub map-format : (marks cells : ℕ) → marks ≤ 384 → cells ≤ 384 → mapAfter m (Format marks cells) ≡ mapIn (empty marks cells)
+  pub map-format : (marks cells : ℕ) → marks ≤ 384 → cells ≤ 384 → mapAfter m (Format marks cells) ≡ empty (capacities marks cells)
   unfolding mapAfter replyTo answer _when_
   map-format marks cells a b = rw (le-ltb 384 marks a, le-ltb 384 cells b)
 

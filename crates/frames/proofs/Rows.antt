@@ -10,11 +10,12 @@ use lib.Dec.{eqb, leb}
 use lib.ListN.{length, getD}
 use Rattle.lists.proofs.Bools.{clash}
 use Rattle.lists.proofs.Fill.{length-listOf}
+use Rattle.map.specs.Cells.{bodyOf}
 use Rattle.map.specs.History.{Insert, Remove}
 use Rattle.frames.specs.declared.Frame as Code
 use Rattle.frames.specs.declared.Frame.the-variants as Frame′
-use Rattle.frames.specs.Frames.{badLine, bytesOf, numberAt, marksIn, Frame, Format, Change, Star, Anchors, Sibling, Bad, Row, _sized_means_, rows, meaning, frameIn, frameOf}
-use Rattle.frames.specs.Forms.{carried, marksOf, Reading, Marked}
+use Rattle.frames.specs.Frames.{badLine, bytesOf, numberAt, marksFrom, Frame, Format, Change, Star, Anchors, Sibling, Bad, Row, _sized_means_, rows, meaning, frameIn, frameOf}
+use Rattle.frames.specs.Forms.{carried, marksCarried, Reading, Marked}
 use Rattle.frames.proofs.Lines.{bytes-length, bad-long}
 
 module _ (line : List ℕ) (code : ℕ) (is : code ≡ getD (bytesOf line) 0 0) where
@@ -22,7 +23,7 @@ module _ (line : List ℕ) (code : ℕ) (is : code ≡ getD (bytesOf line) 0 0) 
   unfolding frameIn rows meaning _sized_means_
   format-row e = rw (← is, e)
 
-  insert-row : code ≡ 160 → frameIn (bytesOf line) ≡ cond (leb 4 (length (bytesOf line)) && eqb (length (bytesOf line) % 2) 0) (Change (Insert (numberAt (bytesOf line) 1) (getD (bytesOf line) 3 0) (marksIn (bytesOf line)))) Bad
+  insert-row : code ≡ 160 → frameIn (bytesOf line) ≡ cond (leb 4 (length (bytesOf line)) && eqb (length (bytesOf line) % 2) 0) (Change (Insert (numberAt (bytesOf line) 1) (bodyOf (getD (bytesOf line) 3 0) (marksFrom (bytesOf line))))) Bad
   unfolding frameIn rows meaning _sized_means_
   insert-row e = rw (← is, e)
 
@@ -110,7 +111,7 @@ module _ (line : List ℕ) (code : ℕ) (is : code ≡ getD (bytesOf line) 0 0) 
   insert-half e h odd = insert-row e ∙ rw (bytes-length line, le-leb 4 (length line / 2) h, odd)
 
   pub insert-whole : code ≡ 160 → 4 ≤ length line / 2 → (length line / 2 % 2 ≡ 1 → ⊥)
-      → frameIn (bytesOf line) ≡ Change (Insert (numberAt (bytesOf line) 1) (getD (bytesOf line) 3 0) (marksIn (bytesOf line)))
+      → frameIn (bytesOf line) ≡ Change (Insert (numberAt (bytesOf line) 1) (bodyOf (getD (bytesOf line) 3 0) (marksFrom (bytesOf line))))
   insert-whole e h even =
       insert-row e ∙ rw (bytes-length line, le-leb 4 (length line / 2) h, eq-eqb (length line / 2 % 2) 0 (omega arith))
 
@@ -131,18 +132,18 @@ module _ (P : Frame → Type 0) (code : ℕ) where
       go false s e g = g
 
 -- a frame of fixed size names no marks
-no-marks : (line : List ℕ) (code : ℕ) → code ≡ getD (bytesOf line) 0 0 → (code ≡ 160 → ⊥) → marksOf (frameIn (bytesOf line)) ≡ []
-unfolding frameIn rows Each _sized_means_ marksOf
+no-marks : (line : List ℕ) (code : ℕ) → code ≡ getD (bytesOf line) 0 0 → (code ≡ 160 → ⊥) → marksCarried (frameIn (bytesOf line)) ≡ []
+unfolding frameIn rows Each _sized_means_ marksCarried
 no-marks line code is ne =
     rw (← is)
-    (meaning-each (λ f. marksOf f ≡ []) code (rows (bytesOf line)) refl
+    (meaning-each (λ f. marksCarried f ≡ []) code (rows (bytesOf line)) refl
     ((λ e. refl), ((λ e. absurd (ne (sym e))), ((λ e. refl), ((λ e. refl), ((λ e. refl), ((λ e. refl), tt)))))))
 
 -- an insert names at most as many as its bytes hold
-some-marks : (line : List ℕ) → length (marksOf (frameIn (bytesOf line))) ≤ (length line / 2 - 4) / 2
-unfolding frameIn rows Each _sized_means_ marksOf marksIn
+some-marks : (line : List ℕ) → length (marksCarried (frameIn (bytesOf line))) ≤ (length line / 2 - 4) / 2
+unfolding frameIn rows Each _sized_means_ marksCarried marksFrom
 some-marks line =
-    meaning-each (λ f. length (marksOf f) ≤ (length line / 2 - 4) / 2) (getD (bytesOf line) 0 0) (rows (bytesOf line)) (omega arith)
+    meaning-each (λ f. length (marksCarried f) ≤ (length line / 2 - 4) / 2) (getD (bytesOf line) 0 0) (rows (bytesOf line)) (omega arith)
     ((λ e. omega arith), ((λ e. omega (arith, bytes-length line, length-listOf ((length (bytesOf line) - 4) / 2) (λ i. numberAt (bytesOf line) (4 + 2 * i)))), ((λ e. omega arith), ((λ e. omega arith), ((λ e. omega arith), ((λ e. omega arith), tt))))))
 
 -- what a read leaves, by the frame
@@ -156,11 +157,11 @@ module _ (line o : List ℕ) where
   good-frame e = rw e
 
   pub read-bad : badLine line ≡ true → Reading (frameOf line) o Frame′.Bad o
-  unfolding carried marksOf
+  unfolding carried marksCarried
   read-bad e = rw (bad-frame e) (record { frame = refl; marks = refl })
 
   pub read-none : badLine line ≡ false → frameIn (bytesOf line) ≡ Bad → Reading (frameOf line) o Frame′.Bad o
-  unfolding carried marksOf
+  unfolding carried marksCarried
   read-none e f = rw (good-frame e, f) (record { frame = refl; marks = refl })
 
   -- a frame of fixed size names no marks
@@ -170,19 +171,19 @@ module _ (line o : List ℕ) where
       rw (good-frame e) (record { frame = f (λ g. ne (is ∙ g)); marks = rw (no-marks line code is ne) })
 
   pub read-insert : (a b n : ℕ) (o′ : List ℕ) → badLine line ≡ false
-      → frameIn (bytesOf line) ≡ Change (Insert (numberAt (bytesOf line) 1) (getD (bytesOf line) 3 0) (marksIn (bytesOf line)))
-      → a ≡ numberAt (bytesOf line) 1 → b ≡ getD (bytesOf line) 3 0 → Marked (marksIn (bytesOf line)) o n o′
+      → frameIn (bytesOf line) ≡ Change (Insert (numberAt (bytesOf line) 1) (bodyOf (getD (bytesOf line) 3 0) (marksFrom (bytesOf line))))
+      → a ≡ numberAt (bytesOf line) 1 → b ≡ getD (bytesOf line) 3 0 → Marked (marksFrom (bytesOf line)) o n o′
       → Reading (frameOf line) o (Frame′.Insert (record { 0 = a }) b n) o′
-  unfolding carried marksOf
+  unfolding carried marksCarried
   read-insert a b n o′ e f ea eb m =
       rw (good-frame e, f, ea, eb) (record { frame = rw (m .count); marks = m .words })
 
 -- "more than 64 digits" is bad, so an insert names 14 marks at most
-pub marks-few : (line : List ℕ) → length (marksOf (frameOf line)) ≤ 14
-unfolding frameOf marksOf
+pub marks-few : (line : List ℕ) → length (marksCarried (frameOf line)) ≤ 14
+unfolding frameOf marksCarried
 marks-few line = go (decLt 64 (length line)) (badLine line) refl
   where
-    go : Dec (64 < length line) → (t : Bool) → badLine line ≡ t → length (marksOf (cond t Bad (frameIn (bytesOf line)))) ≤ 14
+    go : Dec (64 < length line) → (t : Bool) → badLine line ≡ t → length (marksCarried (cond t Bad (frameIn (bytesOf line)))) ≤ 14
     go (yes h) true e = omega arith
     go (yes h) false e = absurd (clash (sym (bad-long line h)) e)
     go (no f) true e = omega arith

@@ -7,7 +7,7 @@ use native.Mathlib.Omega.{arith}
 use lib.ListN.{length, length-append}
 use Rattle.map.specs.declared.Verdict.{Verdict}
 use Rattle.map.specs.declared.Verdict.the-variants as Verdict′
-use Rattle.map.specs.Paper.{given, refused, verdictSays}
+use Rattle.map.specs.Says.{given, refused, verdictSays}
 use Rattle.frames.specs.Frames.{twoBytes, each, counted, cellAndFacet, hex, written}
 
 hex-length : (l : List ℕ) → length (hex l) ≡ 2 * length l

@@ -7,10 +7,10 @@ use native.Mathlib.Omega.{arith}
 use lib.ListN.{length, getD, take}
 use lib.Seq.{take-suc, take-all}
 use Rattle.map.specs.declared.Refusal.{Refusal}
-use Rattle.map.specs.declared.Refusal.the-variants.{CapacityAbove, MemoryShort, CellOutside, CellLive, CellNotLive, TypeUnknown, CountWrong, MarkOutside, MarkTwice, CellSame, MarkFull, OutputShort, FacetOutside, NotMesh, BadFrame}
 use Rattle.map.specs.declared.Verdict.{Verdict}
 use Rattle.map.specs.declared.Verdict.the-variants as Verdict′
-use Rattle.map.specs.Paper.{numberOf, given, refused, verdictSays}
+use Rattle.map.proofs.Refusals.{number-byte}
+use Rattle.map.specs.Says.{numberOf, given, refused, verdictSays}
 use Rattle.frames.specs.Frames.{digits, twoBytes, each, counted, cellAndFacet, hex, written}
 use Rattle.frames.specs.Forms.{Appended}
 use Rattle.frames.proofs.Append.{append-none, append-more, append-same}
@@ -79,28 +79,10 @@ pub given-done : (l : List ℕ) {o o′ o″ o‴ : List ℕ} {at p q r : ℕ}
 unfolding written given hex
 given-done l f s t = append-more (hex (0 ∷ l)) (10 ∷ []) (append-more (hex (0 ∷ [])) (hex l) f s) t
 
--- a refusal's number is a byte
-one-byte : (r : Refusal) → numberOf r % 256 ≡ numberOf r
-one-byte CapacityAbove = refl
-one-byte MemoryShort = refl
-one-byte CellOutside = refl
-one-byte CellLive = refl
-one-byte CellNotLive = refl
-one-byte TypeUnknown = refl
-one-byte CountWrong = refl
-one-byte MarkOutside = refl
-one-byte MarkTwice = refl
-one-byte CellSame = refl
-one-byte MarkFull = refl
-one-byte OutputShort = refl
-one-byte FacetOutside = refl
-one-byte NotMesh = refl
-one-byte BadFrame = refl
-
 pub accepted-byte : (v : Verdict) → v ≡ Verdict′.Accepted → 0 ≡ verdictSays v .refusal
 unfolding verdictSays given
 accepted-byte v e = rw e
 
 pub refused-byte : (v : Verdict) (r : Refusal) (n : ℕ) → v ≡ Verdict′.Refused r → n ≡ numberOf r → n % 256 ≡ verdictSays v .refusal
 unfolding verdictSays refused
-refused-byte v r n e f = rw (e, f) (one-byte r)
+refused-byte v r n e f = rw (e, f) (number-byte r)

@@ -8,17 +8,18 @@ use lib.ListN.{length, take, length-take}
 use lib.Seq.{sets-eq, length-sets, take-all, take-append-seam}
 use Rattle.words.specs.Words.{partOf}
 use Rattle.words.proofs.Fits.{part-fits}
+use Rattle.map.specs.Cells.{bodyOf}
 use Rattle.map.specs.History.{Insert, Remove}
 use Rattle.frames.specs.declared.Frame as Code
 use Rattle.frames.specs.declared.Frame.the-variants as Frame′
 use Rattle.frames.specs.Frames.{Frame, Format, Change, Star, Anchors, Sibling, Bad, frameOf}
-use Rattle.frames.specs.Forms.{carried, marksOf, Reading}
+use Rattle.frames.specs.Forms.{carried, marksCarried, Reading}
 use Rattle.frames.proofs.Lines.{bad-long}
 
 -- the frame that the code's frame and the marks tell
 unfoldable pub told : Code.Frame → List ℕ → Frame
 told (Frame′.Format marks cells) l = Format marks cells
-told (Frame′.Insert c t n) l = Change (Insert (c .0) t l)
+told (Frame′.Insert c t n) l = Change (Insert (c .0) (bodyOf t l))
 told (Frame′.Remove c) l = Change (Remove (c .0))
 told (Frame′.Star d v) l = Star d (v .0)
 told (Frame′.Anchors d v) l = Anchors d (v .0)
@@ -26,10 +27,10 @@ told (Frame′.Sibling c f) l = Sibling (c .0) f
 told Frame′.Bad l = Bad
 
 -- nothing else fits: one frame is carried so
-pub told-carried : (f : Frame) → told (carried f) (marksOf f) ≡ f
-unfolding told carried marksOf
+pub told-carried : (f : Frame) → told (carried f) (marksCarried f) ≡ f
+unfolding told carried marksCarried
 told-carried (Format marks cells) = refl
-told-carried (Change (Insert c t marks)) = refl
+told-carried (Change (Insert c x)) = refl
 told-carried (Change (Remove c)) = refl
 told-carried (Star d v) = refl
 told-carried (Anchors d v) = refl
@@ -37,10 +38,10 @@ told-carried (Sibling c f) = refl
 told-carried Bad = refl
 
 -- the marks stand in the first places of the lent words, where these reach
-pub marks-part : (f : Frame) {o o′ : List ℕ} {r : Code.Frame} → Reading f o r o′ → length (marksOf f) ≤ length o → partOf o′ 0 (length (marksOf f)) ≡ marksOf f
+pub marks-part : (f : Frame) {o o′ : List ℕ} {r : Code.Frame} → Reading f o r o′ → length (marksCarried f) ≤ length o → partOf o′ 0 (length (marksCarried f)) ≡ marksCarried f
 marks-part f {o} {o′} {r} h fits =
-    part-fits o′ 0 (length (marksOf f)) (omega (arith, ap length (h .marks), length-sets o 0 (marksOf f)))
-    ∙ (ap (take (length (marksOf f))) (h .marks ∙ sets-eq (marksOf f) o 0 (omega arith)) ∙ take-append-seam (marksOf f) _)
+    part-fits o′ 0 (length (marksCarried f)) (omega (arith, ap length (h .marks), length-sets o 0 (marksCarried f)))
+    ∙ (ap (take (length (marksCarried f))) (h .marks ∙ sets-eq (marksCarried f) o 0 (omega arith)) ∙ take-append-seam (marksCarried f) _)
 
 -- a line of more than 64 bytes is bad, so no more than 65 of them need be kept
 pub frame-long : (line : List ℕ) → 64 < length line → frameOf line ≡ Bad

@@ -14,7 +14,7 @@ use Rattle.frames.specs.Frames.{Frame, Format, Change, Star, Anchors, Si
 -- the frame as the code carries it: the marks of an insert stand in lent words, with their count in the frame
 unfoldable pub carried : Frame → Code.Frame
 carried (Format marks cells) = Frame′.Format marks cells
-carried (Change (Insert c t marks)) = Frame′.Insert (record { 0 = c }) t (length marks)
+carried (Change (Insert c x)) = Frame′.Insert (record { 0 = c }) (x .code) (length (x .marks))
 carried (Change (Remove c)) = Frame′.Remove (record { 0 = c })
 carried (Star d v) = Frame′.Star d (record { 0 = v })
 carried (Anchors d v) = Frame′.Anchors d (record { 0 = v })
@@ -22,19 +22,19 @@ carried (Sibling c f) = Frame′.Sibling (record { 0 = c }) f
 carried Bad = Frame′.Bad
 
 -- the marks that an insert names; none of another frame
-unfoldable pub marksOf : Frame → List ℕ
-marksOf (Format marks cells) = []
-marksOf (Change (Insert c t marks)) = marks
-marksOf (Change (Remove c)) = []
-marksOf (Star d v) = []
-marksOf (Anchors d v) = []
-marksOf (Sibling c f) = []
-marksOf Bad = []
+unfoldable pub marksCarried : Frame → List ℕ
+marksCarried (Format marks cells) = []
+marksCarried (Change (Insert c x)) = x .marks
+marksCarried (Change (Remove c)) = []
+marksCarried (Star d v) = []
+marksCarried (Anchors d v) = []
+marksCarried (Sibling c f) = []
+marksCarried Bad = []
 
 -- a frame read: its marks stand in the first places of the words o, as far as they reach, and all else is as it was
 pub record Reading (f : Frame) (o : List ℕ) (r : Code.Frame) (o′ : List ℕ) : Type 0 where
   pub frame : r ≡ carried f
-  pub marks : o′ ≡ sets o 0 (marksOf f)
+  pub marks : o′ ≡ sets o 0 (marksCarried f)
 
 -- numbers counted, and written to the first places of the words o, as far as they reach
 pub record Marked (l o : List ℕ) (r : ℕ) (o′ : List ℕ) : Type 0 where

@@ -6,11 +6,12 @@ use lib.Dec.{eqb, leb, ltb}
 use lib.ListN.{length, getD}
 use Rattle.lists.specs.Lists.{any, listOf}
 use Rattle.numbers.specs.Half.{halfOf}
-use Rattle.map.specs.Cells.{Map}
+use Rattle.numbers.specs.Sizes.{capacities}
+use Rattle.map.specs.Cells.{bodyOf, Map}
 use Rattle.map.specs.Siblings.{sibling}
 use Rattle.map.specs.Stars.{star, anchors}
 use Rattle.map.specs.Answers.{Answer, _when_, answer, starChecks, halfChecks}
-use Rattle.map.specs.History.{mapIn, empty, Edit, Insert, Remove, editAnswer, editedMap}
+use Rattle.map.specs.History.{empty, Edit, Insert, Remove, editAnswer, edited}
 
 -- "Lower-case hexadecimal": 0 to 9, a to f
 unfoldable pub digits : List ℕ
@@ -44,8 +45,8 @@ unfoldable pub twoBytes : ℕ → List ℕ
 twoBytes n = n / 256 % 256 ∷ n % 256 ∷ []
 
 -- "marks..": as many as stand after code, cell and type, also none
-unfoldable pub marksIn : List ℕ → List ℕ
-marksIn bytes = listOf ((length bytes - 4) / 2) (λ i. numberAt bytes (4 + 2 * i))
+unfoldable pub marksFrom : List ℕ → List ℕ
+marksFrom bytes = listOf ((length bytes - 4) / 2) (λ i. numberAt bytes (4 + 2 * i))
 
 pub data Frame : Type 0 where
   -- of marks and cells
@@ -74,7 +75,7 @@ rows bytes =
     -- f0 marks cells: format
     (240 sized eqb (length bytes) 5 means Format (numberAt bytes 1) (numberAt bytes 3))
     -- a0 cell type marks..: insert
-    ∷ (160 sized leb 4 (length bytes) && eqb (length bytes % 2) 0 means Change (Insert (numberAt bytes 1) (getD bytes 3 0) (marksIn bytes)))
+    ∷ (160 sized leb 4 (length bytes) && eqb (length bytes % 2) 0 means Change (Insert (numberAt bytes 1) (bodyOf (getD bytes 3 0) (marksFrom bytes))))
     -- d0 cell: remove
     ∷ (208 sized eqb (length bytes) 3 means Change (Remove (numberAt bytes 1)))
     -- 50 dimension mark: star
@@ -120,8 +121,8 @@ replyTo m Bad = answer ((15 when true) ∷ []) []
 
 -- the map afterwards: an accepted format or edit makes another, all else leaves it
 unfoldable pub mapAfter : Map → Frame → Map
-mapAfter m (Format marks cells) = cond (eqb (replyTo m (Format marks cells) .refusal) 0) (mapIn (empty marks cells)) m
-mapAfter m (Change e) = editedMap m e
+mapAfter m (Format marks cells) = cond (eqb (replyTo m (Format marks cells) .refusal) 0) (empty (capacities marks cells)) m
+mapAfter m (Change e) = edited m e
 mapAfter m (Star d v) = m
 mapAfter m (Anchors d v) = m
 mapAfter m (Sibling c f) = m
@@ -148,4 +149,4 @@ outputFrom m line (b ∷ rest) =
 
 -- "It starts with capacities 0 and 0." "Empty input writes nothing."
 unfoldable pub output : List ℕ → List ℕ
-output input = outputFrom (mapIn (empty 0 0)) [] input
+output input = outputFrom (empty (capacities 0 0)) [] input

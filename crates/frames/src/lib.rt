@@ -9,8 +9,8 @@ ghost use mathlib.Core.Path.{_≡_};
 ghost use mathlib.Core.List.{[], _∷_};
 ghost use Prim.Native.Nat.{_%_};
 ghost use lib.ListN.{getD};
-ghost use Rattle.map.specs.Paper.{given, verdictSays};
-ghost use Rattle.frames.specs.Frames.{digits, digitOf, badLine, bytesOf, numberAt, twoBytes, marksIn, frameIn, frameOf, each, counted, cellAndFacet, hex, written};
+ghost use Rattle.map.specs.Says.{given, verdictSays};
+ghost use Rattle.frames.specs.Frames.{digits, digitOf, badLine, bytesOf, numberAt, twoBytes, marksFrom, frameIn, frameOf, each, counted, cellAndFacet, hex, written};
 ghost use Rattle.frames.specs.Forms.{carried, Reading, Marked, Appended};
 use map::Verdict;
 use map::number_of;
@@ -98,7 +98,7 @@ fn number_at(line: &[u8], k: usize) -> u32
 
 // The marks of an insert, to the first places of the lent words; how many there are.
 fn read_marks(line: &[u8], marks: &mut [u32]) -> usize
-    ensures { λ r. ⌜ Marked (marksIn (bytesOf (now (line .entry)))) (now (marks .entry)) r (now (marks .exit)) ⌝ }
+    ensures { λ r. ⌜ Marked (marksFrom (bytesOf (now (line .entry)))) (now (marks .entry)) r (now (marks .exit)) ⌝ }
 {
     if line.len() / 2 < 4 {
         return 0;

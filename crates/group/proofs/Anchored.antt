@@ -10,7 +10,6 @@ use native.Mathlib.Omega.{arith}
 use borrow.Author.Tests.{eq-eqb, eqb-true, lt-ltb, le-ltb}
 use lib.Dec.{eqb}
 use lib.ListN.{length, getD, drop, List·getD-eq-default, List·getD-append}
-use Rattle.shapes.proofs.Today.{four-facets}
 use Rattle.lists.specs.Lists.{has, select, first}
 use Rattle.lists.specs.Ascending.{Ascending}
 use Rattle.lists.specs.Filled.{Copied}
@@ -22,7 +21,6 @@ use Rattle.lists.proofs.Alike.{map-at}
 use Rattle.lists.proofs.Order.{select-ascends, first-least, asc-same}
 use Rattle.numbers.specs.Half.{halfOf}
 use Rattle.numbers.specs.declared.Caps.{Caps}
-use Rattle.store.specs.Layout.{cellAt}
 use Rattle.map.specs.Cells.{Map, facetsAt}
 use Rattle.map.specs.Siblings.{isHalf, Half, marksOf, sibling, border}
 use Rattle.map.specs.Stars.{star, linked, group, halvesAt, anchor, anchors}
@@ -32,13 +30,14 @@ use Rattle.laws.proofs.Halves.{half-live}
 use Rattle.picture.specs.State.{State, mapWith, next}
 use Rattle.picture.specs.Picture.{Pic}
 use Rattle.facet.specs.Facet.{facetIn}
-use Rattle.sibling.proofs.Mapped.{map-ascends}
-use Rattle.sibling.proofs.OnPicture.{facet-read, facets-count}
+use Rattle.lists.proofs.Mapped.{map-ascends}
+use Rattle.laws.proofs.Facets.{facets-count}
+use Rattle.facet.proofs.Read.{facet-read}
 use Rattle.star.specs.Listed.{Gives, Reads, AtMark}
 use Rattle.group.specs.Group.{Around}
 use Rattle.group.specs.Labels.{linkIn, Labelled}
 use Rattle.group.specs.Places.{borderIn, wantedIn, chosenIn, seekIn, placeIn, anchorsIn}
-use Rattle.group.proofs.Round.{sibling-read, linked-read}
+use Rattle.group.proofs.Round.{sib-is, linked-read}
 use Rattle.group.proofs.Listing.{list-size}
 use Rattle.group.proofs.Grouped.{Starred, starred, Grouped, grouped, place-one}
 
@@ -69,9 +68,10 @@ module _ (w : List ℕ) (caps : Caps) (rows : List (List (List ℕ))) (d v : ℕ
   cell-below j h = star-below caps s d v (getD cells j 0) (st .inside j h)
 
   facet-here : (x : ℕ) → x / 8 < n → facetIn w caps rows (getD cells (x / 8) 0) (x % 8) ≡ getD (facetsAt m (getD cells (x / 8) 0)) (x % 8) []
+  unfolding mapWith
   facet-here x h =
       ap (λ (t : List (List (List ℕ))). facetIn w caps t (getD cells (x / 8) 0) (x % 8)) (a .types)
-      ∙ facet-read w caps s p (getD cells (x / 8) 0) (cell-below (x / 8) h) (x % 8)
+      ∙ facet-read w caps s p (getD cells (x / 8) 0) (cell-below (x / 8) h) (a .settled .ready .sound .fitting (getD cells (x / 8) 0)) (x % 8)
 
   -- later places have higher half-facets
   half-up : (x y : ℕ) → x ≤ y → y / 8 < n → halfAt cells x ≤ halfAt cells y
@@ -89,17 +89,12 @@ module _ (w : List ℕ) (caps : Caps) (rows : List (List (List ℕ))) (d v : ℕ
         let r = half-facet m (getD cells (x / 8) 0) (x % 8) (facet-there m _ (x % 8) v e) in
         (r .0, half-live m (a .settled .ready .sound) (halfAt cells x) (r .1), rw (r .2) e)
 
-    own-word : getD w (cellAt (caps .marks) (getD cells (x / 8) 0) + (5 + x % 8)) 0 ≡ sibling m (halfAt cells x)
-    own-word =
-        let few : x % 8 < 4 = omega (arith, facet-there m (getD cells (x / 8) 0) (x % 8) v e, facets-count m (getD cells (x / 8) 0), four-facets (m .at (getD cells (x / 8) 0) .code)) in
-        sibling-read w caps s p (getD cells (x / 8) 0) (x % 8) (cell-below (x / 8) h) few ∙ a .settled .siblings (halfAt cells x) (half-here .1 .facet)
-
     border-here : borderIn w caps (getD cells (x / 8) 0) (x % 8) ≡ border m (halfAt cells x)
     unfolding borderIn halfOf
     border-here =
         let local : x % 8 % 8 ≡ x % 8 = omega arith in
         let cut : getD cells (x / 8) 0 % 65536 ≡ getD cells (x / 8) 0 = omega (arith, cell-below (x / 8) h, p .cells) in
-        rw (local, cut, own-word)
+        rw (local, cut, sib-is w caps s p (a .settled) (halfAt cells x) (half-here .1))
         (same-test _ _ (λ q. self-border m (halfAt cells x) (half-here .1) (eqb-true _ _ q))
         (λ b. eq-eqb _ _ (border-self m (halfAt cells x) (half-here .1) b)))
 
@@ -147,7 +142,7 @@ module _ (w : List ℕ) (caps : Caps) (rows : List (List (List ℕ))) (d v : ℕ
     unfolding chosenIn wantedIn marksOf
     chosen-of k e = (x, less, half, λ only f. and-both _ _ (eq-eqb _ _ same) (and-both _ _ (tail only f) mark))
       where
-        r : (k < 8 * m .cells) × (has (k / 8) g ≡ true) × (isHalf m k ≡ true) × (has v (marksOf m k) ≡ true)
+        r : (k < 8 * m .caps .cells) × (has (k / 8) g ≡ true) × (isHalf m k ≡ true) × (has v (marksOf m k) ≡ true)
         r = halves-has m v g k e
 
         q : (j : ℕ) × (j < n) × (getD cells j 0 ≡ k / 8)

@@ -12,8 +12,7 @@ use Rattle.lists.proofs.Bools.{clash, or-cases, or-left, or-right}
 use Rattle.numbers.specs.Half.{halfOf}
 use Rattle.shapes.specs.Shapes.{facetCount}
 use Rattle.numbers.specs.declared.Caps.{Caps}
-use Rattle.store.specs.Layout.{cellAt}
-use Rattle.facet.specs.Facet.{codeIn}
+use Rattle.store.specs.Slots.{codeIn}
 use Rattle.group.specs.Labels.{anyBelow, sibAt, meetsIn, metIn, linkedIn}
 
 pub below-found : (n : ℕ) (p : ℕ → Bool) (k : ℕ) → k < n → p k ≡ true → anyBelow n p ≡ true
@@ -34,10 +33,6 @@ below-out zero p e = absurd (clash e refl)
 below-out (suc n) p e =
     ⊎-elim (λ (h : p n ≡ true). (n, omega arith, h)) (λ (h : anyBelow n p ≡ true). let r = below-out n p h in (r .0, omega (arith, r .1), r .2))
     (or-cases (p n) (anyBelow n p) e)
-
-pub onward-is : (w : List ℕ) (caps : Caps) (h x : ℕ) → x ≡ getD w (cellAt (caps .marks) (h / 8) + (5 + h % 8)) 0 → x ≡ sibAt w caps h
-unfolding sibAt
-onward-is w caps h x e = e
 
 -- step by step
 module _ (w : List ℕ) (caps : Caps) (start b : ℕ) where
@@ -88,9 +83,8 @@ pub met-from : (w : List ℕ) (caps : Caps) (a b f h : ℕ) (r : Bool) → h ≡
 met-from w caps a b f h r e q = sym (q ∙ ap (λ (x : ℕ). metIn w caps x b) e)
 
 -- facet by facet
-module _ (w : List ℕ) (caps : Caps) (a b t n : ℕ) (code : t ≡ getD w (cellAt (caps .marks) a + 0) 0) (count : n ≡ facetCount t) where
+module _ (w : List ℕ) (caps : Caps) (a b t n : ℕ) (code : t ≡ codeIn w caps a) (count : n ≡ facetCount t) where
   facets : facetCount (codeIn w caps a) ≡ n
-  unfolding codeIn
   facets = sym (count ∙ ap facetCount code)
 
   pub linked-found : (f : ℕ) → metIn w caps (halfOf (a % 65536) (f % 8)) b ≡ true → f < n → true ≡ linkedIn w caps a b

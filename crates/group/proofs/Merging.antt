@@ -11,7 +11,7 @@ use borrow.Author.Tests.{eq-eqb, ne-eqb}
 use lib.ListN.{length, getD, set, length-set}
 use lib.Seq.{getD-set-same, getD-set-other}
 use Rattle.numbers.specs.declared.Caps.{Caps}
-use Rattle.group.specs.Labels.{linkedIn, linkIn, Numbered, renamed, Relabelled, Relates, Within, Pairs, Merged, Labelled}
+use Rattle.group.specs.Labels.{linkedIn, linkIn, Numbered, renamed, Relabelled, Relates, LabelsWithin, Pairs, Merged, Labelled}
 
 pub number-start : (l : List ℕ) → Numbered 0 l l
 number-start l = record { size = refl; own = λ _ p h. absurd (not-suc-le-zero h) }
@@ -120,7 +120,7 @@ module _ (link : ℕ → ℕ → Bool) (n : ℕ) where
           (r .each room a below ∙ (ap (renamed other one) (sym first) ∙ renamed-new other one))
           ∙ sym (r .each room b (omega arith) ∙ renamed-old other one _ (sym second))
 
-      join-within : n ≤ length l → (R : ℕ → ℕ → Bool) → Relates link n R → link a b ≡ true → Within n R l → Within n R l′
+      join-within : n ≤ length l → (R : ℕ → ℕ → Bool) → Relates link n R → link a b ≡ true → LabelsWithin n R l → LabelsWithin n R l′
       join-within room R rel e w p q hp hq same = go (ℕ-discrete (getD l p 0) other) (ℕ-discrete (getD l q 0) other)
         where
           names : renamed other one (getD l p 0) ≡ renamed other one (getD l q 0)

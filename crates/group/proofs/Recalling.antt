@@ -11,7 +11,7 @@ use lib.Seq.{getD-set-same, getD-set-other}
 use Rattle.lists.specs.Lists.{has, select, first}
 use Rattle.numbers.specs.declared.Caps.{Caps}
 use Rattle.facet.specs.Facet.{facetIn}
-use Rattle.group.specs.Places.{wantedIn, chosenIn, seekIn, placeIn, Kept, Recalled}
+use Rattle.group.specs.Places.{wantedIn, chosenIn, seekIn, placeIn, Remembered, Recalled}
 
 module _ (w : List ℕ) (caps : Caps) (rows : List (List (List ℕ))) (v : ℕ) (cells lab : List ℕ) (end : ℕ) where
   -- what is sought for a label
@@ -34,7 +34,7 @@ zeros (suc n) zero = refl
 zeros (suc n) (suc k) = zeros n k
 
 -- at first nothing is known
-pub kept-none : (place : ℕ → ℕ) (lab : List ℕ) (n : ℕ) → Kept place lab (replicate n 0)
+pub kept-none : (place : ℕ → ℕ) (lab : List ℕ) (n : ℕ) → Remembered place lab (replicate n 0)
 kept-none place lab n = record { known = λ i h. absurd (omega (arith, zeros n (getD lab i 0))) }
 
 module _ (place : ℕ → ℕ) (lab : List ℕ) (i : ℕ) (kept : List ℕ) where
@@ -60,7 +60,7 @@ module _ (place : ℕ → ℕ) (lab : List ℕ) (i : ℕ) (kept : List ℕ) wher
     still = λ f. record { known = λ j h. go f j h (ℕ-discrete (getD lab j 0) label) (decLt label (length kept)) };
   }
     where
-      go : Kept place lab kept → (j : ℕ) → 0 < getD kept′ (getD lab j 0) 0 → Dec (getD lab j 0 ≡ label) → Dec (label < length kept)
+      go : Remembered place lab kept → (j : ℕ) → 0 < getD kept′ (getD lab j 0) 0 → Dec (getD lab j 0 ≡ label) → Dec (label < length kept)
           → getD kept′ (getD lab j 0) 0 ≡ place j + 1
       go f j h (yes s) (yes l) =
           rw (s, q) (getD-set-same kept label (x + 1) 0 l ∙ ap (λ (y : ℕ). y + 1) (here ∙ alike j (sym e ∙ sym s)))

@@ -16,9 +16,9 @@ use Rattle.lists.proofs.Order.{select-ascends}
 use Rattle.lists.proofs.Keep.{keep-size}
 use Rattle.numbers.specs.Half.{halfOf}
 use Rattle.shapes.specs.Shapes.{Shape, noShape, bar, tri, quad, tetra, shapes, shape, facetCount}
-use Rattle.shapes.proofs.Today.{four-facets}
+use Rattle.shapes.proofs.Facts.{facts}
 use Rattle.numbers.specs.declared.Caps.{Caps}
-use Rattle.store.specs.Layout.{cellAt, Cell, address}
+use Rattle.store.specs.Slots.{codeIn}
 use Rattle.map.specs.Cells.{Map, holds, facetsAt, shares}
 use Rattle.map.specs.Siblings.{isHalf, Half, marksOf, siblings, sibling, walk}
 use Rattle.map.specs.Sound.{Sound}
@@ -29,33 +29,15 @@ use Rattle.laws.proofs.Halves.{half-live}
 use Rattle.picture.specs.State.{State, mapWith}
 use Rattle.picture.specs.Picture.{Pic}
 use Rattle.picture.specs.Ready.{Settled}
-use Rattle.facet.specs.Facet.{codeIn}
-use Rattle.sibling.specs.Halves.{matchAt, halvesOf}
+use Rattle.facet.specs.Facet.{matchAt}
+use Rattle.sibling.specs.Halves.{halvesOf}
 use Rattle.sibling.proofs.Along.{along}
-use Rattle.sibling.proofs.OnPicture.{code-read, facets-count}
-use Rattle.sibling.proofs.OneWord.{sibling-slot}
+use Rattle.laws.proofs.Facets.{facets-count}
+use Rattle.picture.proofs.Record.{code-read, sib-read}
 use Rattle.group.specs.Labels.{sibAt, meetsIn, metIn, linkedIn}
 use Rattle.group.proofs.Meeting.{below-found, below-out, meets-none, meets-back, meets-here, meets-more, meets-start}
 
--- each facet has a corner
-someCorner : Shape → Bool
-someCorner t = all (λ ps. ltb 0 (length ps)) (t .facets)
-
-some-tested : all someCorner shapes ≡ true
-unfolding someCorner all shapes noShape bar tri quad tetra
-some-tested = refl
-
-none-tested : someCorner noShape ≡ true
-unfolding someCorner all noShape
-none-tested = refl
-
-corner-some : (t f : ℕ) → f < length (shape t .facets) → 0 < length (getD (shape t .facets) f [])
-unfolding shape someCorner
-corner-some t f h =
-    ltb-true 0 (length (getD (getD shapes t noShape .facets) f []))
-    (all-at (λ ps. ltb 0 (length ps)) (getD shapes t noShape .facets) [] f (all-get someCorner shapes noShape t some-tested none-tested) h)
-
--- so a half-facet has a mark
+-- a half-facet has a mark
 marks-some : (m : Map) (h : ℕ) → Half m h → 0 < length (marksOf m h)
 unfolding marksOf isHalf facetsAt
 marks-some m h x =
@@ -63,7 +45,7 @@ marks-some m h x =
     let ps : List ℕ = getD (shape (m .at (h / 8) .code) .facets) (h % 8) [] in
     let there : h % 8 < length (shape (m .at (h / 8) .code) .facets) = omega (arith, ltb-true (h % 8) (length (facetsAt m (h / 8))) (x .facet), facets-count m (h / 8)) in
     let mapped : marksOf m h ≡ map mark ps = List·getD-map (map mark) (shape (m .at (h / 8) .code) .facets) (h % 8) [] in
-    rw (mapped, length-map) (corner-some (m .at (h / 8) .code) (h % 8) there)
+    rw (mapped, length-map) (facts (m .at (h / 8) .code) .some (h % 8) there)
 
 -- at most 128 half-facets have one set of marks: each is of a cell that holds the first mark
 halves-size : (match : ℕ → ℕ) (cells : List ℕ) → length (halvesOf match cells) ≤ length cells
@@ -77,28 +59,21 @@ siblings-few m o h x =
     let v : ℕ = getD set 0 0 in
     let e : siblings m h ≡ halvesOf (matchAt m set) (holders m v) =
     along m o set (holders m v) (marks-some m h x)
-    (λ c k. select-out (holds m v) (m .cells) c k .0)
-    (λ c l k. select-in (holds m v) (m .cells) c l k)
-    (select-ascends (holds m v) (m .cells)) in
+    (λ c k. select-out (holds m v) (m .caps .cells) c k .0)
+    (λ c l k. select-in (holds m v) (m .caps .cells) c l k)
+    (select-ascends (holds m v) (m .caps .cells)) in
     omega (arith, ap length e, halves-size (matchAt m set) (holders m v), o .few v)
-
--- the word of a sibling
-pub sibling-read : (w : List ℕ) (caps : Caps) (s : State) → Pic w caps s → (c f : ℕ) → c < caps .cells → f < 4
-    → getD w (cellAt (caps .marks) c + (5 + f)) 0 ≡ s .sib (8 * c + f)
-unfolding address
-sibling-read w caps s p c f h l = p .words (Cell c (5 + f)) (h, omega arith) ∙ sibling-slot caps s c f l
 
 module _ (w : List ℕ) (caps : Caps) (s : State) (p : Pic w caps s) (t : Settled caps s) where
   abbrev m : Map
   m = mapWith caps s
 
-  sib-is : (h : ℕ) → Half m h → sibAt w caps h ≡ sibling m h
-  unfolding sibAt isHalf mapWith
+  pub sib-is : (h : ℕ) → Half m h → sibAt w caps h ≡ sibling m h
+  unfolding isHalf mapWith
   sib-is h x =
-      let few : h % 8 < 4 = omega (arith, ltb-true (h % 8) (length (facetsAt m (h / 8))) (x .facet), facets-count m (h / 8), four-facets (m .at (h / 8) .code)) in
+      let few : h % 8 < 6 = omega (arith, ltb-true (h % 8) (length (facetsAt m (h / 8))) (x .facet), facets-count m (h / 8), facts (m .at (h / 8) .code) .facets) in
       let below : h / 8 < caps .cells = omega (arith, x .below) in
-      let whole : 8 * (h / 8) + h % 8 ≡ h = omega arith in
-      sibling-read w caps s p (h / 8) (h % 8) below few ∙ (ap (s .sib) whole ∙ t .siblings h (x .facet))
+      sib-read w caps s p h below few ∙ t .siblings h (x .facet)
 
   -- from a half-facet
   module _ (start b : ℕ) (x : Half (mapWith caps s) start) where
@@ -160,9 +135,9 @@ module _ (w : List ℕ) (caps : Caps) (s : State) (p : Pic w caps s) (t : Settle
         moved (suc n) q = omega arith
 
   module _ (a b : ℕ) (ha : a < caps .cells) where
-    count-read : facetCount (codeIn w caps a) ≡ length (facetsAt m a)
+    count-is : facetCount (codeIn w caps a) ≡ length (facetsAt m a)
     unfolding facetCount mapWith
-    count-read = rw (code-read w caps s p a ha) (sym (facets-count (mapWith caps s) a))
+    count-is = rw (code-read w caps s p a ha) (sym (facets-count (mapWith caps s) a))
 
     start-is : (f : ℕ) → f < length (facetsAt m a) → halfOf (a % 65536) (f % 8) ≡ 8 * a + f
     unfolding halfOf
@@ -175,7 +150,7 @@ module _ (w : List ℕ) (caps : Caps) (s : State) (p : Pic w caps s) (t : Settle
         there : linkedIn w caps a b ≡ true → shares m a b ≡ true
         there e =
             let r = below-out (facetCount (codeIn w caps a)) (λ f. metIn w caps (halfOf (a % 65536) (f % 8)) b) e in
-            let less : r .0 < length (facetsAt m a) = omega (arith, r .1, count-read) in
+            let less : r .0 < length (facetsAt m a) = omega (arith, r .1, count-is) in
             let half = half-facet m a (r .0) less in
             let x = half-live m (t .ready .sound) (8 * a + r .0) (half .1) in
             let q = met-there (8 * a + r .0) b x (rw (start-is (r .0) less) at (r .2)) in
@@ -194,4 +169,4 @@ module _ (w : List ℕ) (caps : Caps) (s : State) (p : Pic w caps s) (t : Settle
             let y = half-live m (t .ready .sound) (8 * b + q .0) (other .1) in
             let met : metIn w caps (8 * a + r .0) b ≡ true =
             there-met (8 * a + r .0) b x (λ z. apart (sym (one .0) ∙ z)) (8 * b + q .0) (other .0) y (rw (one .2, other .2) (q .2)) in
-            below-found _ _ (r .0) (omega (arith, r .1, count-read)) (rw (start-is (r .0) (r .1)) met)
+            below-found _ _ (r .0) (omega (arith, r .1, count-is)) (rw (start-is (r .0) (r .1)) met)

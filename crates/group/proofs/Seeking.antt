@@ -12,11 +12,11 @@ use Rattle.lists.proofs.Order.{first-select}
 use Rattle.lists.proofs.Counts.{select-empty}
 use Rattle.numbers.specs.Half.{halfOf}
 use Rattle.numbers.specs.declared.Caps.{Caps}
-use Rattle.store.specs.Layout.{cellAt}
 use Rattle.facet.specs.Facet.{facetIn}
+use Rattle.group.specs.Labels.{sibAt}
 use Rattle.group.specs.Places.{borderIn, wantedIn, chosenIn, seekIn, placeIn}
 
-pub alone-is : (w : List ℕ) (caps : Caps) (c f x h : ℕ) → x ≡ getD w (cellAt (caps .marks) c + (5 + f % 8)) 0 → h ≡ halfOf (c % 65536) (f % 8)
+pub alone-is : (w : List ℕ) (caps : Caps) (c f x h : ℕ) → x ≡ sibAt w caps h → h ≡ halfOf (c % 65536) (f % 8)
     → eqb x h ≡ borderIn w caps c f
 unfolding borderIn
 alone-is w caps c f x h e g = rw (e, g)

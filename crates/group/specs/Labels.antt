@@ -8,8 +8,8 @@ use lib.ListN.{getD, length}
 use Rattle.numbers.specs.Half.{halfOf}
 use Rattle.shapes.specs.Shapes.{facetCount}
 use Rattle.numbers.specs.declared.Caps.{Caps}
-use Rattle.store.specs.Layout.{cellAt}
-use Rattle.facet.specs.Facet.{codeIn}
+use Rattle.store.specs.Fields.{Sib}
+use Rattle.store.specs.Slots.{InCell, read, codeIn}
 use Rattle.numbers.specs.Sizes.{mostAround}
 
 -- one of the numbers below n passes
@@ -17,9 +17,9 @@ unfoldable pub anyBelow : ℕ → (ℕ → Bool) → Bool
 anyBelow zero p = false
 anyBelow (suc n) p = p n || anyBelow n p
 
--- the sibling word of a half-facet
-unfoldable pub sibAt : List ℕ → Caps → ℕ → ℕ
-sibAt w caps h = getD w (cellAt (caps .marks) (h / 8) + (5 + h % 8)) 0
+-- the stored sibling of a half-facet
+abbrev pub sibAt : List ℕ → Caps → ℕ → ℕ
+sibAt w caps h = read w caps (InCell (h / 8) (Sib (h % 8)))
 
 -- from half-facet h on, in at most k steps by the words, cell b is met before half-facet start
 unfoldable pub meetsIn : List ℕ → Caps → ℕ → ℕ → ℕ → ℕ → Bool
@@ -58,8 +58,8 @@ pub record Relates (link : ℕ → ℕ → Bool) (n : ℕ) (R : ℕ → ℕ → 
   pub links : (p q : ℕ) → p < n → q < n → link p q ≡ true → R p q ≡ true
 
 -- places with one label are related
-abbrev pub Within : ℕ → (ℕ → ℕ → Bool) → List ℕ → Type 0
-Within n R l = (p q : ℕ) → p < n → q < n → getD l p 0 ≡ getD l q 0 → R p q ≡ true
+abbrev pub LabelsWithin : ℕ → (ℕ → ℕ → Bool) → List ℕ → Type 0
+LabelsWithin n R l = (p q : ℕ) → p < n → q < n → getD l p 0 ≡ getD l q 0 → R p q ≡ true
 
 -- the pairs of place a with the places from lo to below hi
 pub record Pairs (a lo hi p q : ℕ) : Type 0 where
@@ -72,10 +72,10 @@ pub record Merged (link : ℕ → ℕ → Bool) (n : ℕ) (P : ℕ → ℕ → T
   pub size : length l′ ≡ length l
   pub same : n ≤ length l → (p q : ℕ) → p < n → q < n → getD l p 0 ≡ getD l q 0 → getD l′ p 0 ≡ getD l′ q 0
   pub linked : n ≤ length l → (p q : ℕ) → P p q → q < p → p < n → link p q ≡ true → getD l′ p 0 ≡ getD l′ q 0
-  pub within : n ≤ length l → (R : ℕ → ℕ → Bool) → Relates link n R → Within n R l → Within n R l′
+  pub within : n ≤ length l → (R : ℕ → ℕ → Bool) → Relates link n R → LabelsWithin n R l → LabelsWithin n R l′
 
 -- what the labels say in the end
 pub record Labelled (link : ℕ → ℕ → Bool) (n : ℕ) (l l′ : List ℕ) : Type 0 where
   pub size : length l′ ≡ length l
   pub linked : n ≤ length l → (a b : ℕ) → b < a → a < n → link a b ≡ true → getD l′ a 0 ≡ getD l′ b 0
-  pub within : n ≤ length l → (R : ℕ → ℕ → Bool) → Relates link n R → ((p : ℕ) → p < n → R p p ≡ true) → Within n R l′
+  pub within : n ≤ length l → (R : ℕ → ℕ → Bool) → Relates link n R → ((p : ℕ) → p < n → R p p ≡ true) → LabelsWithin n R l′

@@ -8,12 +8,12 @@ use lib.ListN.{getD}
 use Rattle.lists.specs.Lists.{has, select, first}
 use Rattle.numbers.specs.Half.{halfOf}
 use Rattle.numbers.specs.declared.Caps.{Caps}
-use Rattle.store.specs.Layout.{cellAt}
 use Rattle.facet.specs.Facet.{facetIn}
+use Rattle.group.specs.Labels.{sibAt}
 
--- the sibling word of a cell's facet has the number of that half-facet
+-- the stored sibling of a cell's facet is that half-facet
 unfoldable pub borderIn : List ℕ → Caps → ℕ → ℕ → Bool
-borderIn w caps c f = eqb (getD w (cellAt (caps .marks) c + (5 + f % 8)) 0) (halfOf (c % 65536) (f % 8))
+borderIn w caps c f = eqb (sibAt w caps (halfOf (c % 65536) (f % 8))) (halfOf (c % 65536) (f % 8))
 
 -- the half-facet is a border, where only those are asked for
 unfoldable pub wantedIn : List ℕ → Caps → ℕ → ℕ → Bool → Bool
@@ -36,13 +36,13 @@ placeIn w caps rows v cells lab end i =
     (seekIn w caps rows v cells lab end i false)
 
 -- what is kept for a label is the place of its group and 1; 0 for what is not known
-pub record Kept (place : ℕ → ℕ) (lab kept : List ℕ) : Type 0 where
+pub record Remembered (place : ℕ → ℕ) (lab kept : List ℕ) : Type 0 where
   pub known : (i : ℕ) → 0 < getD kept (getD lab i 0) 0 → getD kept (getD lab i 0) 0 ≡ place i + 1
 
 -- then the place is right, and so is what is kept afterwards
 pub record Recalled (place : ℕ → ℕ) (lab : List ℕ) (i : ℕ) (kept : List ℕ) (x : ℕ) (kept′ : List ℕ) : Type 0 where
-  pub right : Kept place lab kept → x ≡ place i
-  pub still : Kept place lab kept → Kept place lab kept′
+  pub right : Remembered place lab kept → x ≡ place i
+  pub still : Remembered place lab kept → Remembered place lab kept′
 
 -- the anchors, each at the place of its own cell
 unfoldable pub anchorsIn : (ℕ → ℕ) → List ℕ → ℕ → List ℕ

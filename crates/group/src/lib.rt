@@ -13,56 +13,52 @@ ghost use Rattle.map.specs.Stars.{anchors};
 ghost use Rattle.picture.specs.State.{next};
 ghost use Rattle.star.specs.Listed.{Gives, Reads};
 ghost use Rattle.group.specs.Group.{Around};
-ghost use Rattle.group.specs.Labels.{sibAt, metIn, linkedIn, linkIn, Numbered, Relabelled, Pairs, Merged, Labelled};
+ghost use Rattle.group.specs.Labels.{metIn, linkedIn, linkIn, Numbered, Relabelled, Pairs, Merged, Labelled};
 ghost use Rattle.group.specs.Places.{borderIn, wantedIn, chosenIn, seekIn, placeIn, Recalled, anchorsIn};
 ghost use Rattle.numbers.specs.Sizes.{mostAround};
 use facet::facet_has;
 use numbers::Caps;
 use numbers::Cell;
+use numbers::Half;
 use numbers::MOST_AROUND;
+use numbers::Mark;
+use numbers::cell_of;
 use numbers::half_of;
 use shapes::FacetTable;
 use shapes::facet_count;
 use star::star_of;
-use store::cell_word;
+use store::code_of;
+use store::sibling_of;
 use words::put;
 use words::word;
 
-// The sibling word of a half-facet.
-fn onward(w: &[u32], caps: Caps, h: u32) -> u32
-    ensures { λ r. ⌜ r ≡ sibAt (now (w .entry)) caps h ⌝ }
-{
-    cell_word(w, caps, h / 8, 5 + h % 8)
-}
-
 // Whether the words lead from a half-facet to cell b before they lead back; no set has more than 128 half-facets.
-fn meets(w: &[u32], caps: Caps, start: u32, b: u32) -> bool
-    ensures { λ r. ⌜ r ≡ metIn (now (w .entry)) caps start b ⌝ }
+fn meets(w: &[u32], caps: Caps, start: Half, b: Cell) -> bool
+    ensures { λ r. ⌜ r ≡ metIn (now (w .entry)) caps (start .0) (b .0) ⌝ }
 {
-    let mut h = onward(w, caps, start);
+    let mut h = sibling_of(w, caps, start);
     let mut left: u32 = MOST_AROUND;
     while 0 < left {
-        if h == start {
+        if h.0 == start.0 {
             return false;
         }
-        if h / 8 == b {
+        if cell_of(h).0 == b.0 {
             return true;
         }
-        h = onward(w, caps, h);
+        h = sibling_of(w, caps, h);
         left -= 1;
     }
     false
 }
 
 // Whether two cells share a facet, by the sibling words.
-fn linked(w: &[u32], caps: Caps, a: u32, b: u32) -> bool
-    ensures { λ r. ⌜ r ≡ linkedIn (now (w .entry)) caps a b ⌝ }
+fn linked(w: &[u32], caps: Caps, a: Cell, b: Cell) -> bool
+    ensures { λ r. ⌜ r ≡ linkedIn (now (w .entry)) caps (a .0) (b .0) ⌝ }
 {
-    let n = facet_count(cell_word(w, caps, a, 0));
+    let n = facet_count(code_of(w, caps, a));
     let mut f: u32 = 0;
     while f < n {
-        let half = half_of(Cell(a), f);
-        if meets(w, caps, half.0, b) {
+        if meets(w, caps, half_of(a, f), b) {
             return true;
         }
         f += 1;
@@ -103,7 +99,7 @@ fn merge_pair(w: &[u32], caps: Caps, cells: &[u32], n: u32, a: usize, b: usize, 
     if one == other {
         return;
     }
-    if linked(w, caps, word(cells, a), word(cells, b)) {
+    if linked(w, caps, Cell(word(cells, a)), Cell(word(cells, b))) {
         relabel(lab, n, other, one);
     }
 }
@@ -132,16 +128,16 @@ fn labels(w: &[u32], caps: Caps, cells: &[u32], n: u32, lab: &mut [u32])
 }
 
 // Whether a half-facet is its own sibling, by its word.
-fn alone(w: &[u32], caps: Caps, c: u32, f: u32) -> bool
-    ensures { λ r. ⌜ r ≡ borderIn (now (w .entry)) caps c f ⌝ }
+fn alone(w: &[u32], caps: Caps, c: Cell, f: u32) -> bool
+    ensures { λ r. ⌜ r ≡ borderIn (now (w .entry)) caps (c .0) f ⌝ }
 {
-    let half = half_of(Cell(c), f);
-    cell_word(w, caps, c, 5 + f % 8) == half.0
+    let half = half_of(c, f);
+    sibling_of(w, caps, half).0 == half.0
 }
 
 // Whether the half-facet is a border, where only those are asked for.
-fn wanted(w: &[u32], caps: Caps, c: u32, f: u32, only: bool) -> bool
-    ensures { λ r. ⌜ r ≡ wantedIn (now (w .entry)) caps c f only ⌝ }
+fn wanted(w: &[u32], caps: Caps, c: Cell, f: u32, only: bool) -> bool
+    ensures { λ r. ⌜ r ≡ wantedIn (now (w .entry)) caps (c .0) f only ⌝ }
 {
     if !only {
         return true;
@@ -154,20 +150,20 @@ fn chosen(
     w: &[u32],
     caps: Caps,
     rows: &FacetTable,
-    v: u32,
+    v: Mark,
     cells: &[u32],
     lab: &[u32],
     i: u32,
     only: bool,
     x: u32,
 ) -> bool
-    ensures { λ r. ⌜ r ≡ chosenIn (now (w .entry)) caps (now (rows .entry)) v (now (cells .entry)) (now (lab .entry)) i only x ⌝ }
+    ensures { λ r. ⌜ r ≡ chosenIn (now (w .entry)) caps (now (rows .entry)) (v .0) (now (cells .entry)) (now (lab .entry)) i only x ⌝ }
 {
     let j = (x / 8) as usize;
     if word(lab, j) != word(lab, i as usize) {
         return false;
     }
-    let c = word(cells, j);
+    let c = Cell(word(cells, j));
     if !wanted(w, caps, c, x % 8, only) {
         return false;
     }
@@ -179,14 +175,14 @@ fn seek(
     w: &[u32],
     caps: Caps,
     rows: &FacetTable,
-    v: u32,
+    v: Mark,
     cells: &[u32],
     lab: &[u32],
     end: u32,
     i: u32,
     only: bool,
 ) -> u32
-    ensures { λ r. ⌜ r ≡ seekIn (now (w .entry)) caps (now (rows .entry)) v (now (cells .entry)) (now (lab .entry)) end i only ⌝ }
+    ensures { λ r. ⌜ r ≡ seekIn (now (w .entry)) caps (now (rows .entry)) (v .0) (now (cells .entry)) (now (lab .entry)) end i only ⌝ }
 {
     let mut x: u32 = 0;
     while x < end {
@@ -203,13 +199,13 @@ fn place(
     w: &[u32],
     caps: Caps,
     rows: &FacetTable,
-    v: u32,
+    v: Mark,
     cells: &[u32],
     lab: &[u32],
     end: u32,
     i: u32,
 ) -> u32
-    ensures { λ r. ⌜ r ≡ placeIn (now (w .entry)) caps (now (rows .entry)) v (now (cells .entry)) (now (lab .entry)) end i ⌝ }
+    ensures { λ r. ⌜ r ≡ placeIn (now (w .entry)) caps (now (rows .entry)) (v .0) (now (cells .entry)) (now (lab .entry)) end i ⌝ }
 {
     let x = seek(w, caps, rows, v, cells, lab, end, i, true);
     if x < end {
@@ -224,14 +220,14 @@ fn recall(
     w: &[u32],
     caps: Caps,
     rows: &FacetTable,
-    v: u32,
+    v: Mark,
     cells: &[u32],
     lab: &[u32],
     end: u32,
     i: u32,
     kept: &mut [u32],
 ) -> u32
-    ensures { λ r. ⌜ Recalled (placeIn (now (w .entry)) caps (now (rows .entry)) v (now (cells .entry)) (now (lab .entry)) end) (now (lab .entry)) i (now (kept .entry)) r (now (kept .exit)) ⌝ }
+    ensures { λ r. ⌜ Recalled (placeIn (now (w .entry)) caps (now (rows .entry)) (v .0) (now (cells .entry)) (now (lab .entry)) end) (now (lab .entry)) i (now (kept .entry)) r (now (kept .exit)) ⌝ }
 {
     let label = word(lab, i as usize) as usize;
     let known = word(kept, label);
@@ -252,14 +248,14 @@ fn list(
     w: &[u32],
     caps: Caps,
     rows: &FacetTable,
-    v: u32,
+    v: Mark,
     cells: &[u32],
     lab: &[u32],
     n: u32,
     end: u32,
     out: &mut [u32],
 ) -> u32
-    ensures { λ r. ⌜ Copied (anchorsIn (placeIn (now (w .entry)) caps (now (rows .entry)) v (now (cells .entry)) (now (lab .entry)) end) (now (cells .entry)) n) (now (out .entry)) r (now (out .exit)) ⌝ }
+    ensures { λ r. ⌜ Copied (anchorsIn (placeIn (now (w .entry)) caps (now (rows .entry)) (v .0) (now (cells .entry)) (now (lab .entry)) end) (now (cells .entry)) n) (now (out .entry)) r (now (out .exit)) ⌝ }
 {
     let mut kept = [0u32; MOST_AROUND as usize];
     let mut k: u32 = 0;
@@ -277,8 +273,8 @@ fn list(
 }
 
 // The anchors of a mark in a dimension, ascending, written to the first places of out; how many there are.
-pub fn anchors_of(w: &[u32], caps: Caps, rows: &FacetTable, d: u32, v: u32, out: &mut [u32]) -> u32
-    ensures { λ r. ⌜ Gives (now (w .entry)) caps mostAround (Around caps (now (rows .entry)) v) (λ m. anchors m d v) (now (out .entry)) r (now (out .exit)) ⌝ }
+pub fn anchors_of(w: &[u32], caps: Caps, rows: &FacetTable, d: u32, v: Mark, out: &mut [u32]) -> u32
+    ensures { λ r. ⌜ Gives (now (w .entry)) caps mostAround (Around caps (now (rows .entry)) (v .0)) (λ m. anchors m d (v .0)) (now (out .entry)) r (now (out .exit)) ⌝ }
 {
     let mut cells = [0u32; MOST_AROUND as usize];
     let n = star_of(w, caps, d, v, &mut cells);
@@ -292,8 +288,8 @@ pub fn anchors_of(w: &[u32], caps: Caps, rows: &FacetTable, d: u32, v: u32, out:
 }
 
 // The first anchor of a mark in a dimension as number + 1; 0 for none.
-pub fn first_anchor_of(w: &[u32], caps: Caps, rows: &FacetTable, d: u32, v: u32) -> u32
-    ensures { λ r. ⌜ Reads (now (w .entry)) caps (Around caps (now (rows .entry)) v) (λ m. next (anchors m d v)) r ⌝ }
+pub fn first_anchor_of(w: &[u32], caps: Caps, rows: &FacetTable, d: u32, v: Mark) -> u32
+    ensures { λ r. ⌜ Reads (now (w .entry)) caps (Around caps (now (rows .entry)) (v .0)) (λ m. next (anchors m d (v .0))) r ⌝ }
 {
     let mut found = [0u32; MOST_AROUND as usize];
     let n = anchors_of(w, caps, rows, d, v, &mut found);

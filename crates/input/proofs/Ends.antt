@@ -8,15 +8,16 @@ use borrow.Author.Tests.{le-leb, lt-leb, le-ltb, lt-ltb}
 use lib.Dec.{leb}
 use lib.ListN.{length, length-take}
 use Rattle.numbers.specs.Room.{room}
+use Rattle.numbers.specs.Sizes.{capacities}
 use Rattle.words.proofs.Frame.{only-none}
 use Rattle.map.specs.declared.Refusal.the-variants.{MemoryShort, BadFrame}
 use Rattle.map.specs.declared.Verdict.{Verdict}
 use Rattle.map.specs.declared.Verdict.the-variants.{Accepted, Refused}
 use Rattle.map.specs.Cells.{Map, mapOf}
 use Rattle.map.specs.Answers.{answer, _when_, formatChecks}
-use Rattle.map.specs.History.{mapIn, empty}
-use Rattle.map.specs.Paper.{given, refused, verdictSays}
-use Rattle.map.proofs.Paper.{verdict-one}
+use Rattle.map.specs.History.{empty}
+use Rattle.map.specs.Says.{given, refused, verdictSays}
+use Rattle.map.proofs.Says.{verdict-one}
 use Rattle.format.specs.Formatted.{Formatted}
 use Rattle.frames.specs.Frames.{written, outputFrom}
 use Rattle.frames.specs.Forms.{Appended}
@@ -47,8 +48,8 @@ start-short w h = record {
   stands = λ e. absurd (clash-verdicts e);
 }
 
-pub start-formatted : (w w′ : List ℕ) (v : Verdict) (marks cells : ℕ) → 15376 ≤ length w → marks ≡ 0 → cells ≡ 0 → Formatted w marks cells v w′ → Started w v w′
-unfolding room answer formatChecks _when_ verdictSays given mapIn mapOf empty
+pub start-formatted : (w w′ : List ℕ) (v : Verdict) (marks cells : ℕ) → 15376 ≤ length w → marks ≡ 0 → cells ≡ 0 → Formatted w (capacities marks cells) v w′ → Started w v w′
+unfolding room answer formatChecks _when_ verdictSays given mapOf empty
 start-formatted w w′ v marks cells h em ec f = record {
   says = ap verdictSays accepts ∙ rw (le-ltb (length w) 15376 h);
   kept = f .kept;

@@ -22,7 +22,7 @@ use Rattle.frames.proofs.Steps.{output-more, output-line}
 use Rattle.reply.specs.Replied.{Replied}
 use Rattle.input.specs.declared.Places.{Places}
 use Rattle.input.specs.Standing.{Standing, Reached}
-use Rattle.input.specs.Fed.{Kept, Taken, Feeding}
+use Rattle.input.specs.Fed.{KeptByte, Taken, Feeding}
 use Rattle.input.proofs.Lines.{line-none, line-frame}
 
 -- no byte
@@ -66,7 +66,7 @@ module _ (w line : List ℕ) (n b : ℕ) (o : List ℕ) (at : ℕ) where
   }
 
   -- a byte of the line
-  pub taken-more : (line′ : List ℕ) (r : ℕ) → (b ≡ 10 → ⊥) → Kept line n b r line′ → Taken w line n b o at (record { line = r; out = at }) w line′ o
+  pub taken-more : (line′ : List ℕ) (r : ℕ) → (b ≡ 10 → ⊥) → KeptByte line n b r line′ → Taken w line n b o at (record { line = r; out = at }) w line′ o
   taken-more line′ r ne k = record {
     text = [];
     few = omega arith;

@@ -12,7 +12,7 @@ use Rattle.words.proofs.Fits.{part-fits, part-none}
 use Rattle.frames.specs.Frames.{frameOf}
 use Rattle.frames.proofs.Told.{frame-kept}
 use Rattle.input.specs.Standing.{Lined}
-use Rattle.input.specs.Fed.{Kept}
+use Rattle.input.specs.Fed.{KeptByte}
 
 -- as the code cuts it
 pub first-none : (line : List ℕ) (n : ℕ) → length line < n → [] ≡ partOf line 0 n
@@ -33,7 +33,7 @@ line-frame line n l s =
     ap frameOf (part-fits line 0 n (omega (arith, s .count, s .fits, length-take 65 l)) ∙ s .bytes) ∙ frame-kept l
 
 module _ (line : List ℕ) (n b : ℕ) where
-  pub kept-full : 65 ≤ n → Kept line n b n line
+  pub kept-full : 65 ≤ n → KeptByte line n b n line
   kept-full h = record {
     inside = only-none;
     more = λ l s.
@@ -42,10 +42,10 @@ module _ (line : List ℕ) (n b : ℕ) where
   }
 
   -- a line too short to hold 65 bytes stands for none
-  pub kept-out : n < 65 → length line ≤ n → Kept line n b n line
+  pub kept-out : n < 65 → length line ≤ n → KeptByte line n b n line
   kept-out h less = record { inside = only-none; more = λ l s. absurd (omega (arith, s .fits)) }
 
-  pub kept-more : (r : ℕ) → r ≡ n + 1 → n < 65 → n < length line → Kept line n b r (set line n b)
+  pub kept-more : (r : ℕ) → r ≡ n + 1 → n < 65 → n < length line → KeptByte line n b r (set line n b)
   kept-more r e h less = record {
     inside = only-put line n b h;
     more = λ l s.

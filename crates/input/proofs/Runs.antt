@@ -23,7 +23,7 @@ use Rattle.frames.proofs.Told.{frame-long}
 use Rattle.input.specs.declared.Fed.{Fed}
 use Rattle.input.specs.Standing.{Standing, Reached}
 use Rattle.input.specs.Fed.{Started, Feeding, Finished}
-use Rattle.input.specs.Run.{Run, done, then}
+use Rattle.input.specs.InPieces.{InPieces, done, then}
 use Rattle.input.proofs.Going.{reached-none, reached-then}
 
 -- the bytes of a feed are the first places of its output
@@ -40,19 +40,19 @@ run-more {piece = piece} {input = input} {text = text} {r = r} f rest m l s =
     (reached-then a (rest (a .map) (a .sofar) (a .stands)))
 
 -- a run reaches what its input comes to, whatever the pieces and the outputs
-pub run-reaches : {w line w′ line′ input text : List ℕ} {n n′ : ℕ} → Run w line n input text w′ line′ n′ → (m : Map) (l : List ℕ) → Standing w line n m l
+pub run-reaches : {w line w′ line′ input text : List ℕ} {n n′ : ℕ} → InPieces w line n input text w′ line′ n′ → (m : Map) (l : List ℕ) → Standing w line n m l
     → Reached m l input text w′ line′ n′
 run-reaches done m l s = reached-none s
 run-reaches (then piece r f rest) m l s = run-more f (λ k line t. run-reaches rest k line t) m l s
 
 -- and no word beyond the room of 384 marks and 384 cells changes, on any memory
-pub run-inside : {w line w′ line′ input text : List ℕ} {n n′ : ℕ} → Run w line n input text w′ line′ n′ → Only (λ i. i < room 384 384) w w′
+pub run-inside : {w line w′ line′ input text : List ℕ} {n n′ : ℕ} → InPieces w line n input text w′ line′ n′ → Only (λ i. i < room 384 384) w w′
 run-inside done = only-none
 run-inside (then piece r f rest) = only-then (f .inside) (run-inside rest)
 
 -- cut nowhere: from the start on, what the feeds wrote, then what `finish` wrote, is the output of all the bytes together
 pub run-output : {w₀ w line w′ line′ input text o o′ : List ℕ} {v : Verdict} {n r : ℕ} → Started w₀ v w → v ≡ Accepted → 65 ≤ length line
-    → Run w line 0 input text w′ line′ n → Finished n o r o′ → 3 ≤ length o → text ++ take r o′ ≡ output input
+    → InPieces w line 0 input text w′ line′ n → Finished n o r o′ → 3 ≤ length o → text ++ take r o′ ≡ output input
 unfolding output
 run-output {line = line} {input = input} {text = text} {o = o} {o′ = o′} {r = r} begun ok fits run end enough =
     let a = run-reaches run _ [] (begun .stands ok line fits) in

@@ -5,14 +5,15 @@ use Prim.Native.Nat.{ℕ, _+_, _<_, _≤_}
 use lib.Dec.{ltb}
 use lib.ListN.{length, take, drop}
 use Rattle.numbers.specs.Room.{room}
+use Rattle.numbers.specs.Sizes.{capacities}
 use Rattle.words.specs.Words.{Only}
 use Rattle.map.specs.declared.Refusal.{Refusal}
 use Rattle.map.specs.declared.Verdict.{Verdict}
 use Rattle.map.specs.declared.Verdict.the-variants.{Accepted, Refused}
 use Rattle.map.specs.Cells.{Map}
 use Rattle.map.specs.Answers.{_when_, answer}
-use Rattle.map.specs.History.{mapIn, empty}
-use Rattle.map.specs.Paper.{verdictSays}
+use Rattle.map.specs.History.{empty}
+use Rattle.map.specs.Says.{verdictSays}
 use Rattle.frames.specs.Frames.{outputFrom}
 use Rattle.frames.specs.Forms.{Appended}
 use Rattle.input.specs.declared.Fed.{Fed}
@@ -24,10 +25,10 @@ pub record Started (w : List ℕ) (r : Verdict) (w′ : List ℕ) : Type 0 where
   pub says : verdictSays r ≡ answer ((2 when ltb (length w) (room 384 384)) ∷ []) []
   pub kept : (why : Refusal) → r ≡ Refused why → w′ ≡ w
   pub inside : Only (λ i. i < room 0 0) w w′
-  pub stands : r ≡ Accepted → (line : List ℕ) → 65 ≤ length line → Standing w′ line 0 (mapIn (empty 0 0)) []
+  pub stands : r ≡ Accepted → (line : List ℕ) → 65 ≤ length line → Standing w′ line 0 (empty (capacities 0 0)) []
 
 -- a byte of a line kept
-pub record Kept (line : List ℕ) (n b r : ℕ) (line′ : List ℕ) : Type 0 where
+pub record KeptByte (line : List ℕ) (n b r : ℕ) (line′ : List ℕ) : Type 0 where
   pub inside : Only (λ i. i < 65) line line′
   pub more : (l : List ℕ) → Lined line n l → Lined line′ r (l ++ (b ∷ []))
 

@@ -1,3 +1,3 @@
 pub mod Standing
 pub mod Fed
-pub mod Run
+pub mod InPieces

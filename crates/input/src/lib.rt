@@ -9,7 +9,7 @@ ghost use mathlib.Core.Path.{_≡_};
 ghost use Prim.Native.Nat.{_+_};
 ghost use lib.Dec.{leb};
 ghost use Rattle.words.specs.Words.{partOf};
-ghost use Rattle.input.specs.Fed.{Started, Kept, Taken, Feeding, Finished};
+ghost use Rattle.input.specs.Fed.{Started, KeptByte, Taken, Feeding, Finished};
 use format::format;
 use frames::write_verdict;
 use map::Refusal;
@@ -56,7 +56,7 @@ fn first(line: &[u8], n: usize) -> &[u8]
 
 // A byte more of the line; past its end nothing is kept.
 fn keep(line: &mut [u8], n: usize, b: u8) -> usize
-    ensures { λ r. ⌜ Kept (now (line .entry)) n b r (now (line .exit)) ⌝ }
+    ensures { λ r. ⌜ KeptByte (now (line .entry)) n b r (now (line .exit)) ⌝ }
 {
     if MOST <= n {
         return n;

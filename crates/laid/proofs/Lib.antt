@@ -1,7 +1,7 @@
 -- The laws that the layers above cite.
 pub mod Steps
-pub mod Blanks
 pub mod Chains
+pub mod Records
 pub mod Seen
 pub mod Uprights
 pub mod Right

@@ -1,84 +1,90 @@
 -- What the first half of the whole check asks of memory: every record by itself, and every chain. Defined on any memory.
-use mathlib.Core.Bool.{Bool, true, false, not, _&&_, _||_}
+use mathlib.Core.Bool.{Bool, false, cond, not, _&&_, _||_}
 use mathlib.Core.List.{List}
-use Prim.Native.Nat.{ℕ, zero, suc, _+_, _-_}
-use denote.Ref.{RefT, now}
+use Prim.Native.Nat.{ℕ, zero, suc, _/_, _%_}
 use lib.Dec.{eqb, leb, ltb}
-use lib.ListN.{getD}
-use Rattle.lists.specs.Lists.{has, any, all, repeats, every}
-use Rattle.words.specs.Words.{partOf, Part}
+use lib.ListN.{getD, length}
+use Rattle.lists.specs.Lists.{any, all, repeats, every}
 use Rattle.shapes.specs.Shapes.{shape, facetCount}
+use Rattle.shapes.specs.Sizes.{mostMarks, mostFacets}
 use Rattle.numbers.specs.declared.Caps.{Caps}
-use Rattle.store.specs.Layout.{markAt, cellAt, coldAt}
-use Rattle.facet.specs.Facet.{codeIn}
-use Rattle.chain.specs.Walk.{linkIn}
 use Rattle.numbers.specs.Sizes.{mostAround}
-
--- the n words from a place on are 0
-unfoldable pub blankIn : List ℕ → ℕ → ℕ → Bool
-blankIn w at n = all {A = ℕ} (λ x. eqb x 0) (partOf w at n)
-
--- the marks of a cell, as many as its type has
-unfoldable pub marksIn : List ℕ → Caps → ℕ → List ℕ
-marksIn w caps c = partOf w (cellAt (caps .marks) c + 1) (shape (codeIn w caps c) .marks)
-
--- as the very part of memory that stores them
-pub record MarksAt (w : RefT (List ℕ)) (caps : Caps) (c : ℕ) (r : RefT (List ℕ)) : Type 0 where
-  pub part : Part w (cellAt (caps .marks) c + 1) (shape (codeIn (now w) caps c) .marks) r
+use Rattle.store.specs.Fields.{First, Held, Sib, Link, Far}
+use Rattle.store.specs.Slots.{InMark, InCell, read, codeIn, cornerIn}
+use Rattle.store.specs.Rests.{headBlank, markBlank, cellBlank}
+use Rattle.facet.specs.Facet.{marksIn}
 
 -- no cell, or a type of the table
-unfoldable pub typedIn : ℕ → Bool
-typedIn code = eqb code 0 || ltb 0 (shape code .dimension)
+unfoldable pub typed : ℕ → Bool
+typed code = eqb code 0 || ltb 0 (shape code .dimension)
 
 -- the marks are marks of the mesh, none twice
-unfoldable pub fineIn : Caps → List ℕ → Bool
-fineIn caps marks = not (any (leb (caps .marks)) marks) && not (repeats marks)
+unfoldable pub fine : Caps → List ℕ → Bool
+fine caps marks = not (any (leb (caps .marks)) marks) && not (repeats marks)
 
--- behind the marks, the siblings and the links of the type stands nothing, and nothing in the second part
-unfoldable pub restIn : List ℕ → Caps → ℕ → ℕ → ℕ → Bool
-restIn w caps c n f =
-    blankIn w (cellAt (caps .marks) c + (1 + n)) (4 - n)
-    && (blankIn w (cellAt (caps .marks) c + (5 + f)) (4 - f)
-    && (blankIn w (cellAt (caps .marks) c + (9 + n)) (7 - n) && blankIn w (coldAt (caps .marks) (caps .cells) c) 16))
+-- the word at the kth of such fields: 0 from the nth on
+unfoldable pub bare : ℕ → ℕ → ℕ → Bool
+bare n k x = ltb k n || eqb x 0
 
--- a cell may stand in the chain of v: from low on, below the capacity, and v is one of its marks
-unfoldable pub standsIn : List ℕ → Caps → ℕ → ℕ → ℕ → Bool
-standsIn w caps v low c = leb low c && (ltb c (caps .cells) && has v (marksIn w caps c))
+-- the mark at a corner that stands in the second part: all of them where there are more than four
+unfoldable pub farMark : List ℕ → ℕ → ℕ
+farMark marks k = cond (ltb 4 (length marks)) (getD marks k 0) 0
+
+-- a corner of a cell with these marks: its mark in both parts, 0 behind them; and no link behind them
+unfoldable pub cornerRight : List ℕ → Caps → ℕ → List ℕ → ℕ → Bool
+cornerRight w caps c marks k =
+    eqb (cornerIn w caps c k) (getD marks k 0)
+    && (eqb (read w caps (InCell c (Far k))) (farMark marks k) && bare (length marks) k (read w caps (InCell c (Link k))))
+
+-- a facet of a cell with n facets: no sibling behind them. A half-facet's number has room for the cells below 65,536
+unfoldable pub facetRight : List ℕ → Caps → ℕ → ℕ → ℕ → Bool
+facetRight w caps c n f = bare n f (read w caps (InCell (c % 65536) (Sib f)))
+
+-- a cell's record: its type, its marks, each corner, each facet, and the words that say nothing
+unfoldable pub recordRight : List ℕ → Caps → ℕ → Bool
+recordRight w caps c =
+    typed (codeIn w caps c)
+    && (fine caps (marksIn w caps c)
+    && (every mostMarks (cornerRight w caps c (marksIn w caps c))
+    && (every mostFacets (facetRight w caps c (facetCount (codeIn w caps c))) && cellBlank w caps c)))
+
+-- the link behind a link, at the corner that it says
+unfoldable pub linkBehind : List ℕ → Caps → ℕ → ℕ
+linkBehind w caps at = read w caps (InCell (at / 8) (Link (at % 8)))
+
+-- a cell may stand in the chain of v by its corner k: it is from low on, below the capacity, and v is its mark there
+unfoldable pub stands : List ℕ → Caps → ℕ → ℕ → ℕ → ℕ → Bool
+stands w caps v low c k =
+    leb low c && (ltb c (caps .cells) && (ltb k (length (marksIn w caps c)) && eqb (getD (marksIn w caps c) k 0) v))
 
 -- the chain of v from a link on, after n cells: each may stand there, they ascend, and the count is theirs; at most k follow
-unfoldable pub goesIn : List ℕ → Caps → ℕ → ℕ → ℕ → ℕ → ℕ → Bool
-goesIn w caps v zero link low n = eqb link 0 && eqb (getD w (markAt v + 1) 0) n
-goesIn w caps v (suc k) zero low n = eqb (getD w (markAt v + 1) 0) n
-goesIn w caps v (suc k) (suc c) low n = standsIn w caps v low c && goesIn w caps v k (linkIn w caps c v) (suc c) (suc n)
+unfoldable pub goes : List ℕ → Caps → ℕ → ℕ → ℕ → ℕ → ℕ → Bool
+goes w caps v zero link low n = eqb link 0 && eqb (read w caps (InMark v Held)) n
+goes w caps v (suc k) zero low n = eqb (read w caps (InMark v Held)) n
+goes w caps v (suc k) (suc at) low n =
+    stands w caps v low (at / 8) (at % 8) && goes w caps v k (linkBehind w caps at) (suc (at / 8)) (suc n)
 
--- the chain of v from a link on meets c among its next k cells
-unfoldable pub meetsIn : List ℕ → Caps → ℕ → ℕ → ℕ → ℕ → Bool
-meetsIn w caps c v zero link = false
-meetsIn w caps c v (suc k) zero = false
-meetsIn w caps c v (suc k) (suc d) = eqb d c || meetsIn w caps c v k (linkIn w caps d v)
+-- the chain from a link on meets the cell c among its next k cells
+unfoldable pub meetsFrom : List ℕ → Caps → ℕ → ℕ → ℕ → Bool
+meetsFrom w caps c zero link = false
+meetsFrom w caps c (suc k) zero = false
+meetsFrom w caps c (suc k) (suc at) = eqb (at / 8) c || meetsFrom w caps c k (linkBehind w caps at)
 
--- the chain of v meets c
-unfoldable pub linkedIn : List ℕ → Caps → ℕ → ℕ → Bool
-linkedIn w caps c v = meetsIn w caps c v mostAround (getD w (markAt v + 0) 0)
+-- the chain of v is right; it meets the cell c
+unfoldable pub chainRight : List ℕ → Caps → ℕ → Bool
+chainRight w caps v = goes w caps v mostAround (read w caps (InMark v First)) 0 0
+
+unfoldable pub meets : List ℕ → Caps → ℕ → ℕ → Bool
+meets w caps c v = meetsFrom w caps c mostAround (read w caps (InMark v First))
 
 -- a mark's record, and its chain
-unfoldable pub markIn : List ℕ → Caps → ℕ → Bool
-markIn w caps v = blankIn w (markAt v + 5) 3 && goesIn w caps v mostAround (getD w (markAt v + 0) 0) 0 0
+unfoldable pub markRight : List ℕ → Caps → ℕ → Bool
+markRight w caps v = markBlank w caps v && chainRight w caps v
 
--- a cell's record
-unfoldable pub recordIn : List ℕ → Caps → ℕ → Bool
-recordIn w caps c =
-    typedIn (codeIn w caps c)
-    && (fineIn caps (marksIn w caps c) && restIn w caps c (shape (codeIn w caps c) .marks) (facetCount (codeIn w caps c)))
-
--- and the cell stands in the chain of each of its marks
-unfoldable pub cellIn : List ℕ → Caps → ℕ → Bool
-cellIn w caps c = recordIn w caps c && all (linkedIn w caps c) (marksIn w caps c)
-
--- the words of the head that say nothing today
-unfoldable pub headIn : List ℕ → Bool
-headIn w = blankIn w 3 2 && blankIn w 9 7
+-- a cell's record, and the cell stands in the chain of each of its marks
+unfoldable pub cellRight : List ℕ → Caps → ℕ → Bool
+cellRight w caps c = recordRight w caps c && all (meets w caps c) (marksIn w caps c)
 
 -- memory is laid out: its records and its chains
 unfoldable pub laidIn : List ℕ → Caps → Bool
-laidIn w caps = headIn w && (every (caps .marks) (markIn w caps) && every (caps .cells) (cellIn w caps))
+laidIn w caps = headBlank w caps && (every (caps .marks) (markRight w caps) && every (caps .cells) (cellRight w caps))

@@ -3,7 +3,7 @@ use mathlib.Core.Path.{_≡_}
 use mathlib.Core.Bool.{true, false}
 use Prim.Native.Nat.{ℕ, _<_, _≤_}
 use lib.ListN.{length}
-use Rattle.lists.specs.Lists.{has, repeats}
+use Rattle.lists.specs.Lists.{repeats}
 use Rattle.shapes.specs.Shapes.{shape}
 use Rattle.numbers.specs.declared.Caps.{Caps}
 use Rattle.map.specs.Cells.{noCell, live, dimensionAt, holds}

@@ -2,59 +2,40 @@
 //
 // What is here: `laid`, the first half of the whole check, and its steps. All are total: any memory, any numbers. What is proved: each
 // answer is that of specs/Laid.antt, on any memory; memory that is laid out is the picture of the state that it tells, and well-formed
-// memory is laid out (proofs/). What a caller should know: a chain is followed for 128 cells at most; the cost follows marks, cells and
-// the chains of each cell's marks.
+// memory is laid out (proofs/). What a caller should know: live counts, first anchors and the siblings themselves need other records and
+// are not looked at here; a chain is followed for 128 cells at most; the cost follows marks, cells and the chains of each cell's marks.
 ghost use mathlib.Core.Path.{_≡_};
-ghost use Prim.Native.Nat.{_+_};
-ghost use lib.ListN.{getD};
 ghost use Rattle.lists.specs.Lists.{all, every};
-ghost use Rattle.shapes.specs.Shapes.{shape, facetCount};
-ghost use Rattle.store.specs.Layout.{markAt};
-ghost use Rattle.laid.specs.Laid.{blankIn, MarksAt, typedIn, fineIn, restIn, standsIn, goesIn, linkedIn, markIn, recordIn, cellIn, headIn, laidIn};
-ghost use Rattle.numbers.specs.Sizes.{mostAround};
-use chain::link_after;
-use lists::has;
+ghost use Rattle.shapes.specs.Shapes.{facetCount};
+ghost use Rattle.shapes.specs.Sizes.{mostMarks, mostFacets};
+ghost use Rattle.laid.specs.Laid.{typed, fine, farMark, cornerRight, facetRight, recordRight, stands, chainRight, meets, markRight, cellRight, laidIn};
+use facet::marks_at;
 use lists::reaches;
 use lists::repeats;
 use numbers::Caps;
+use numbers::Cell;
 use numbers::MOST_AROUND;
+use numbers::Mark;
+use numbers::half_of;
+use shapes::MOST_FACETS;
+use shapes::MOST_MARKS;
 use shapes::dimension;
 use shapes::facet_count;
-use shapes::mark_count;
-use store::cell_word;
-use store::mark_word;
-use words::part;
-
-// The n words from a place on are 0.
-fn blank(w: &[u32], at: usize, n: usize) -> bool
-    ensures { λ r. ⌜ r ≡ blankIn (now (w .entry)) at n ⌝ }
-{
-    let l = part(w, at, n);
-    let mut i = 0;
-    while i < l.len() {
-        if l[i] != 0 {
-            return false;
-        }
-        i += 1;
-    }
-    true
-}
-
-// The marks of a cell, as its record gives them.
-pub fn marks_at(w: &[u32], caps: Caps, c: u32) -> &[u32]
-    ensures { λ r. ⌜ MarksAt (w .entry) caps c r ⌝ }
-{
-    let n = mark_count(cell_word(w, caps, c, 0));
-    part(
-        w,
-        16 + 8 * (caps.marks as usize) + 16 * (c as usize) + 1,
-        n as usize,
-    )
-}
+use store::cell_blank;
+use store::code_of;
+use store::corner_of;
+use store::far_of;
+use store::first_of;
+use store::head_blank;
+use store::held_of;
+use store::link_of;
+use store::mark_blank;
+use store::sibling_of;
+use words::word;
 
 // No cell, or a type of the table.
 fn typed(code: u32) -> bool
-    ensures { λ r. ⌜ r ≡ typedIn code ⌝ }
+    ensures { λ r. ⌜ r ≡ typed code ⌝ }
 {
     if code == 0 {
         return true;
@@ -64,7 +45,7 @@ fn typed(code: u32) -> bool
 
 // The marks are marks of the mesh, none twice.
 fn fine(caps: Caps, marks: &[u32]) -> bool
-    ensures { λ r. ⌜ r ≡ fineIn caps (now (marks .entry)) ⌝ }
+    ensures { λ r. ⌜ r ≡ fine caps (now (marks .entry)) ⌝ }
 {
     if reaches(marks, caps.marks) {
         return false;
@@ -72,66 +53,110 @@ fn fine(caps: Caps, marks: &[u32]) -> bool
     !repeats(marks)
 }
 
-// Nothing stands behind the marks, the siblings and the links that the type has, and nothing in the cell's second part.
-fn rest(w: &[u32], caps: Caps, c: u32, t: u32) -> bool
-    ensures { λ r. ⌜ r ≡ restIn (now (w .entry)) caps c (shape t .marks) (facetCount t) ⌝ }
+// The mark at a corner that stands in the second part: only a cell with more than four has them there.
+fn far_mark(marks: &[u32], k: u32) -> u32
+    ensures { λ r. ⌜ r ≡ farMark (now (marks .entry)) k ⌝ }
 {
-    let n = mark_count(t) as usize;
-    let f = facet_count(t) as usize;
-    let at = 16 + 8 * (caps.marks as usize) + 16 * (c as usize);
-    if !blank(w, at + (1 + n), 4 - n) {
+    if marks.len() <= 4 {
+        return 0;
+    }
+    word(marks, k as usize)
+}
+
+// A corner of a cell with these marks: its mark in both parts, and nothing behind the marks.
+fn corner_ok(w: &[u32], caps: Caps, c: Cell, k: u32, marks: &[u32]) -> bool
+    ensures { λ r. ⌜ r ≡ cornerRight (now (w .entry)) caps (c .0) (now (marks .entry)) k ⌝ }
+{
+    let v = corner_of(w, caps, c, k);
+    if v.0 != word(marks, k as usize) {
         return false;
     }
-    if !blank(w, at + (5 + f), 4 - f) {
+    if far_of(w, caps, c, k) != far_mark(marks, k) {
         return false;
     }
-    if !blank(w, at + (9 + n), 7 - n) {
-        return false;
+    if (k as usize) < marks.len() {
+        return true;
     }
-    let cold = 16 + 8 * (caps.marks as usize) + 16 * (caps.cells as usize) + 16 * (c as usize);
-    blank(w, cold, 16)
+    link_of(w, caps, c, k) == 0
+}
+
+// Every corner that a record has room for.
+fn corners_ok(w: &[u32], caps: Caps, c: Cell, marks: &[u32]) -> bool
+    ensures { λ r. ⌜ r ≡ every mostMarks (cornerRight (now (w .entry)) caps (c .0) (now (marks .entry))) ⌝ }
+{
+    let mut k: u32 = 0;
+    while k < MOST_MARKS {
+        if !corner_ok(w, caps, c, k, marks) {
+            return false;
+        }
+        k += 1;
+    }
+    true
+}
+
+// Behind the facets of the type stands no sibling.
+fn facets_ok(w: &[u32], caps: Caps, c: Cell, t: u32) -> bool
+    ensures { λ r. ⌜ r ≡ every mostFacets (facetRight (now (w .entry)) caps (c .0) (facetCount t)) ⌝ }
+{
+    let mut f = facet_count(t);
+    while f < MOST_FACETS {
+        let h = sibling_of(w, caps, half_of(c, f));
+        if h.0 != 0 {
+            return false;
+        }
+        f += 1;
+    }
+    true
 }
 
 // A cell's record by itself.
-fn record_ok(w: &[u32], caps: Caps, c: u32) -> bool
-    ensures { λ r. ⌜ r ≡ recordIn (now (w .entry)) caps c ⌝ }
+fn record_ok(w: &[u32], caps: Caps, c: Cell) -> bool
+    ensures { λ r. ⌜ r ≡ recordRight (now (w .entry)) caps (c .0) ⌝ }
 {
-    let t = cell_word(w, caps, c, 0);
+    let t = code_of(w, caps, c);
     if !typed(t) {
         return false;
     }
-    if !fine(caps, marks_at(w, caps, c)) {
+    let marks = marks_at(w, caps, c);
+    if !fine(caps, marks) {
         return false;
     }
-    rest(w, caps, c, t)
+    if !corners_ok(w, caps, c, marks) {
+        return false;
+    }
+    if !facets_ok(w, caps, c, t) {
+        return false;
+    }
+    cell_blank(w, caps, c)
 }
 
 // Whether the chain of v meets the cell c.
-fn linked(w: &[u32], caps: Caps, c: u32, v: u32) -> bool
-    ensures { λ r. ⌜ r ≡ linkedIn (now (w .entry)) caps c v ⌝ }
+fn meets(w: &[u32], caps: Caps, v: Mark, c: Cell) -> bool
+    ensures { λ r. ⌜ r ≡ meets (now (w .entry)) caps (c .0) (v .0) ⌝ }
 {
-    let mut link = mark_word(w, v, 0);
+    let mut link = first_of(w, caps, v);
     let mut n: u32 = 0;
     while n < MOST_AROUND {
         if link == 0 {
             return false;
         }
-        if link - 1 == c {
+        let at = link - 1;
+        if at / 8 == c.0 {
             return true;
         }
-        link = link_after(w, caps, link - 1, v);
+        link = link_of(w, caps, Cell(at / 8), at % 8);
         n += 1;
     }
     false
 }
 
 // Whether the chain of each of the marks meets the cell c.
-fn all_linked(w: &[u32], caps: Caps, c: u32, marks: &[u32]) -> bool
-    ensures { λ r. ⌜ r ≡ all (linkedIn (now (w .entry)) caps c) (now (marks .entry)) ⌝ }
+fn all_meet(w: &[u32], caps: Caps, c: Cell, marks: &[u32]) -> bool
+    ensures { λ r. ⌜ r ≡ all (meets (now (w .entry)) caps (c .0)) (now (marks .entry)) ⌝ }
 {
     let mut i = 0;
     while i < marks.len() {
-        if !linked(w, caps, c, marks[i]) {
+        if !meets(w, caps, Mark(marks[i]), c) {
             return false;
         }
         i += 1;
@@ -140,45 +165,50 @@ fn all_linked(w: &[u32], caps: Caps, c: u32, marks: &[u32]) -> bool
 }
 
 // A cell's record, and the chains of its marks.
-fn cell_ok(w: &[u32], caps: Caps, c: u32) -> bool
-    ensures { λ r. ⌜ r ≡ cellIn (now (w .entry)) caps c ⌝ }
+fn cell_ok(w: &[u32], caps: Caps, c: Cell) -> bool
+    ensures { λ r. ⌜ r ≡ cellRight (now (w .entry)) caps (c .0) ⌝ }
 {
     if !record_ok(w, caps, c) {
         return false;
     }
-    all_linked(w, caps, c, marks_at(w, caps, c))
+    all_meet(w, caps, c, marks_at(w, caps, c))
 }
 
-// A cell may stand in the chain of v: from low on, below the capacity, and v is one of its marks.
-fn stands(w: &[u32], caps: Caps, v: u32, low: u32, c: u32) -> bool
-    ensures { λ r. ⌜ r ≡ standsIn (now (w .entry)) caps v low c ⌝ }
+// A cell may stand in the chain of v by its corner k: it is from low on, below the capacity, and v is its mark there.
+fn stands(w: &[u32], caps: Caps, v: Mark, low: Cell, c: Cell, k: u32) -> bool
+    ensures { λ r. ⌜ r ≡ stands (now (w .entry)) caps (v .0) (low .0) (c .0) k ⌝ }
 {
-    if c < low {
+    if c.0 < low.0 {
         return false;
     }
-    if caps.cells <= c {
+    if caps.cells <= c.0 {
         return false;
     }
-    has(marks_at(w, caps, c), v)
+    let marks = marks_at(w, caps, c);
+    if marks.len() <= k as usize {
+        return false;
+    }
+    marks[k as usize] == v.0
 }
 
 // The chain of v: each cell may stand there, they ascend, and the count is theirs.
-fn chain_ok(w: &[u32], caps: Caps, v: u32) -> bool
-    ensures { λ r. ⌜ r ≡ goesIn (now (w .entry)) caps v mostAround (getD (now (w .entry)) (markAt v + 0) 0) 0 0 ⌝ }
+fn chain_ok(w: &[u32], caps: Caps, v: Mark) -> bool
+    ensures { λ r. ⌜ r ≡ chainRight (now (w .entry)) caps (v .0) ⌝ }
 {
-    let count = mark_word(w, v, 1);
-    let mut link = mark_word(w, v, 0);
+    let count = held_of(w, caps, v);
+    let mut link = first_of(w, caps, v);
     let mut low: u32 = 0;
     let mut n: u32 = 0;
     while n < MOST_AROUND {
         if link == 0 {
             return count == n;
         }
-        if !stands(w, caps, v, low, link - 1) {
+        let at = link - 1;
+        if !stands(w, caps, v, Cell(low), Cell(at / 8), at % 8) {
             return false;
         }
-        low = link;
-        link = link_after(w, caps, low - 1, v);
+        low = at / 8 + 1;
+        link = link_of(w, caps, Cell(at / 8), at % 8);
         n += 1;
     }
     if link != 0 {
@@ -188,10 +218,10 @@ fn chain_ok(w: &[u32], caps: Caps, v: u32) -> bool
 }
 
 // A mark's record, and its chain.
-fn mark_ok(w: &[u32], caps: Caps, v: u32) -> bool
-    ensures { λ r. ⌜ r ≡ markIn (now (w .entry)) caps v ⌝ }
+fn mark_ok(w: &[u32], caps: Caps, v: Mark) -> bool
+    ensures { λ r. ⌜ r ≡ markRight (now (w .entry)) caps (v .0) ⌝ }
 {
-    if !blank(w, 16 + 8 * (v as usize) + 5, 3) {
+    if !mark_blank(w, caps, v) {
         return false;
     }
     chain_ok(w, caps, v)
@@ -199,11 +229,11 @@ fn mark_ok(w: &[u32], caps: Caps, v: u32) -> bool
 
 // All marks.
 fn marks_ok(w: &[u32], caps: Caps) -> bool
-    ensures { λ r. ⌜ r ≡ every (caps .marks) (markIn (now (w .entry)) caps) ⌝ }
+    ensures { λ r. ⌜ r ≡ every (caps .marks) (markRight (now (w .entry)) caps) ⌝ }
 {
     let mut v: u32 = 0;
     while v < caps.marks {
-        if !mark_ok(w, caps, v) {
+        if !mark_ok(w, caps, Mark(v)) {
             return false;
         }
         v += 1;
@@ -213,11 +243,11 @@ fn marks_ok(w: &[u32], caps: Caps) -> bool
 
 // All cells.
 fn cells_ok(w: &[u32], caps: Caps) -> bool
-    ensures { λ r. ⌜ r ≡ every (caps .cells) (cellIn (now (w .entry)) caps) ⌝ }
+    ensures { λ r. ⌜ r ≡ every (caps .cells) (cellRight (now (w .entry)) caps) ⌝ }
 {
     let mut c: u32 = 0;
     while c < caps.cells {
-        if !cell_ok(w, caps, c) {
+        if !cell_ok(w, caps, Cell(c)) {
             return false;
         }
         c += 1;
@@ -225,21 +255,11 @@ fn cells_ok(w: &[u32], caps: Caps) -> bool
     true
 }
 
-// The words of the head that say nothing today.
-fn head_ok(w: &[u32]) -> bool
-    ensures { λ r. ⌜ r ≡ headIn (now (w .entry)) ⌝ }
-{
-    if !blank(w, 3, 2) {
-        return false;
-    }
-    blank(w, 9, 7)
-}
-
 // Whether memory is laid out: its records and its chains.
 pub fn laid(w: &[u32], caps: Caps) -> bool
     ensures { λ r. ⌜ r ≡ laidIn (now (w .entry)) caps ⌝ }
 {
-    if !head_ok(w) {
+    if !head_blank(w, caps) {
         return false;
     }
     if !marks_ok(w, caps) {

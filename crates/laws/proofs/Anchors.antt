@@ -60,8 +60,8 @@ module _ (m : Map) where
       ap (has (mark place)) (List·getD-map (map mark) (shape (m .at c .code) .facets) f []) ∙ map-has mark _ place e
 
   -- a cell has a half-facet at each mark that it holds
-  pub corner-half : Fitting m → (v c : ℕ) → holds m v c ≡ true → c < m .cells
-      → (h : ℕ) × (h / 8 ≡ c) × (isHalf m h ≡ true) × (has v (marksOf m h) ≡ true) × (h < 8 * m .cells)
+  pub corner-half : Fitting m → (v c : ℕ) → holds m v c ≡ true → c < m .caps .cells
+      → (h : ℕ) × (h / 8 ≡ c) × (isHalf m h ≡ true) × (has v (marksOf m h) ≡ true) × (h < 8 * m .caps .cells)
   unfolding holds facetsAt
   corner-half fit v c e l =
       let place = has-at v (m .at c .marks) e in
@@ -76,19 +76,19 @@ module _ (m : Map) where
 
 module _ (m : Map) (d v : ℕ) where
   -- each cell of a star has its dimension and holds its mark
-  pub star-has : (c : ℕ) → has c (star m d v) ≡ true → (c < m .cells) × (dimensionAt m c ≡ d) × (holds m v c ≡ true)
+  pub star-has : (c : ℕ) → has c (star m d v) ≡ true → (c < m .caps .cells) × (dimensionAt m c ≡ d) × (holds m v c ≡ true)
   unfolding star
   star-has c e = let r = select-out _ _ c e in (r .0, eqb-true _ d (and-left _ _ (r .1)), and-right (eqb (dimensionAt m c) d) _ (r .1))
 
   -- each cell that has the dimension and holds the mark is in the star
-  pub has-star : (c : ℕ) → c < m .cells → dimensionAt m c ≡ d → holds m v c ≡ true → has c (star m d v) ≡ true
+  pub has-star : (c : ℕ) → c < m .caps .cells → dimensionAt m c ≡ d → holds m v c ≡ true → has c (star m d v) ≡ true
   unfolding star
   has-star c l e h = select-in _ _ c l (and-both _ _ (eq-eqb _ d e) h)
 
   -- a star ascends
   pub star-ascends : Ascending (star m d v)
   unfolding star
-  star-ascends = select-ascends _ (m .cells)
+  star-ascends = select-ascends _ (m .caps .cells)
 
   -- a cell of a star is in its own group
   pub group-of-star : (c : ℕ) → has c (star m d v) ≡ true → has c (group m d v c) ≡ true
@@ -108,7 +108,7 @@ module _ (m : Map) (d v : ℕ) where
 module _ (m : Map) (v : ℕ) (g : List ℕ) where
   -- of a group's half-facets that hold the mark each is a half-facet of a cell of the group and holds the mark
   pub halves-has : (h : ℕ) → has h (halvesAt m v g) ≡ true
-      → (h < 8 * m .cells) × (has (h / 8) g ≡ true) × (isHalf m h ≡ true) × (has v (marksOf m h) ≡ true)
+      → (h < 8 * m .caps .cells) × (has (h / 8) g ≡ true) × (isHalf m h ≡ true) × (has v (marksOf m h) ≡ true)
   unfolding halvesAt
   halves-has h e =
       let r = select-out _ _ h e in
@@ -116,7 +116,7 @@ module _ (m : Map) (v : ℕ) (g : List ℕ) where
       (r .0, and-left _ _ (r .1), and-left _ _ q, and-right (isHalf m h) _ q)
 
   -- each half-facet of a cell of the group that holds the mark is one of them
-  pub has-halves : (h : ℕ) → h < 8 * m .cells → has (h / 8) g ≡ true → isHalf m h ≡ true → has v (marksOf m h) ≡ true
+  pub has-halves : (h : ℕ) → h < 8 * m .caps .cells → has (h / 8) g ≡ true → isHalf m h ≡ true → has v (marksOf m h) ≡ true
       → has h (halvesAt m v g) ≡ true
   unfolding halvesAt
   has-halves h l e i k = select-in _ _ h l (and-both _ _ e (and-both _ _ i k))
@@ -124,7 +124,7 @@ module _ (m : Map) (v : ℕ) (g : List ℕ) where
   -- they ascend
   pub halves-ascend : Ascending (halvesAt m v g)
   unfolding halvesAt
-  halves-ascend = select-ascends _ (8 * m .cells)
+  halves-ascend = select-ascends _ (8 * m .caps .cells)
 
   -- where there is one, the anchor of the group is one of them
   pub anchor-in : (k : ℕ) → has k (halvesAt m v g) ≡ true → has (anchor m v g) (halvesAt m v g) ≡ true
@@ -187,4 +187,4 @@ module _ (m : Map) (d v : ℕ) where
   -- the list of anchors ascends
   pub anchors-ascend : Ascending (anchors m d v)
   unfolding anchors
-  anchors-ascend = select-ascends _ (8 * m .cells)
+  anchors-ascend = select-ascends _ (8 * m .caps .cells)

@@ -12,6 +12,7 @@ use Rattle.lists.specs.Lists.{has}
 use Rattle.lists.proofs.Bools.{clash, not-true-false}
 use Rattle.lists.proofs.Select.{select-in, select-out}
 use Rattle.lists.proofs.Counts.{select-more}
+use Rattle.numbers.specs.declared.Caps.{Caps}
 use Rattle.shapes.specs.Shapes.{shape, shapes, noShape}
 use Rattle.map.specs.Cells.{Body, Map, noCell, live, holds, cellsOf, facetsAt}
 use Rattle.map.specs.Siblings.{isHalf, sharers}
@@ -21,13 +22,13 @@ use Rattle.map.specs.Sound.{Sound}
 use Rattle.lists.proofs.Alike.{one-or-other, select-alike}
 use Rattle.laws.proofs.Cycles.{sharers-has}
 use Rattle.laws.proofs.Edits.{MayInsert, MayRemove, may-insert, may-remove, typed-coded}
-use Rattle.laws.proofs.Local.{OneMore, picked, picked-same, sharers-at, more-insert, more-remove, bodyOf}
+use Rattle.laws.proofs.Local.{OneMore, picked, picked-same, sharers-at, more-insert, more-remove, editBody}
 
 module _ (m m′ : Map) (c : ℕ) (x : Body) (r : OneMore m m′ c x) where
   module _ (p : Body → Bool) (empty : p noCell ≡ false) where
     -- another cell is picked as before
     picked-other : (k : ℕ) → (k ≡ c → ⊥) → has k (picked m′ p) ≡ has k (picked m p)
-    picked-other k n = select-alike _ _ _ _ k (r .apart .cells) (ap p (r .apart .other k n))
+    picked-other k n = select-alike _ _ _ _ k (ap (λ (caps : Caps). caps .cells) (r .apart .caps)) (ap p (r .apart .other k n))
 
     -- where the cell does not pass, the same are picked
     picked-kept : p x ≡ false → picked m′ p ≡ picked m p
@@ -36,15 +37,15 @@ module _ (m m′ : Map) (c : ℕ) (x : Body) (r : OneMore m m′ c x) where
     -- where it passes, one more is picked
     picked-more : p x ≡ true → length (picked m′ p) ≡ suc (length (picked m p))
     picked-more e =
-        rw (r .apart .cells)
-        (select-more _ _ c (m .cells) (r .number) (rw (r .before) empty) (rw (r .after) e)
+        rw (r .apart .caps)
+        (select-more _ _ c (m .caps .cells) (r .number) (rw (r .before) empty) (rw (r .after) e)
         (λ k n. ap p (sym (r .apart .other k (λ z. n (sym z))))))
 
     -- the cell besides
     picked-gain : p x ≡ true → (k : ℕ) → has k (picked m′ p) ≡ eqb c k || has k (picked m p)
     picked-gain e =
         one-or-other c (λ k. has k (picked m′ p) ≡ eqb c k || has k (picked m p))
-        (rw (eq-eqb c c refl) (select-in _ _ c (rw (r .apart .cells) (r .number)) (rw (r .after) e)))
+        (rw (eq-eqb c c refl) (select-in _ _ c (rw (r .apart .caps) (r .number)) (rw (r .after) e)))
         (λ k n. rw (ne-eqb c k (λ z. n (sym z))) (picked-other k n))
 
     -- before it, all the others
@@ -94,24 +95,24 @@ module _ (m m′ : Map) (c : ℕ) (x : Body) (r : OneMore m m′ c x) where
 
 -- an accepted edit leaves the cells of every other type
 pub count-other : (m : Map) → Sound m → (e : Edit) → editAnswer m e .refusal ≡ 0
-    → (t : ℕ) → 0 < t → (t ≡ bodyOf m e .code → ⊥) → cellsOf (changed m e) t ≡ cellsOf m t
-count-other m s (Insert c t marks) a u l n = more-type-other _ _ c _ (more-insert m s c t marks (may-insert m c t marks a)) u l n
-count-other m s (Remove c) a u l n = sym (more-type-other _ _ c _ (more-remove m s c (may-remove m c a)) u l n)
+    → (t : ℕ) → 0 < t → (t ≡ editBody m e .code → ⊥) → cellsOf (changed m e) t ≡ cellsOf m t
+count-other m s (Insert c x) a t l n = more-type-other _ _ c _ (more-insert m s c x (may-insert m c x a)) t l n
+count-other m s (Remove c) a t l n = sym (more-type-other _ _ c _ (more-remove m s c (may-remove m c a)) t l n)
 
 -- a code of a live cell
 code-live : (t : ℕ) → not (eqb t 0) ≡ true → 0 < t
 code-live t e = let n = eqb-false t 0 (not-true _ e) in omega arith
 
-module _ (m : Map) (s : Sound m) (c t : ℕ) (marks : List ℕ) (r : MayInsert m c t marks) where
+module _ (m : Map) (s : Sound m) (c : ℕ) (x : Body) (r : MayInsert m c x) where
   -- an accepted insertion makes one more of its type
-  pub count-insert : length (cellsOf (changed m (Insert c t marks)) t) ≡ suc (length (cellsOf m t))
-  count-insert = more-type _ _ c _ (more-insert m s c t marks r) (code-live t (typed-coded t (r .typed)))
+  pub count-insert : length (cellsOf (changed m (Insert c x)) (x .code)) ≡ suc (length (cellsOf m (x .code)))
+  count-insert = more-type _ _ c _ (more-insert m s c x r) (code-live (x .code) (typed-coded (x .code) (r .typed)))
 
   -- and each of its marks stands in one more cell, and that is the new one
-  pub holders-insert : (v : ℕ) → has v marks ≡ true
-      → (length (holders (changed m (Insert c t marks)) v) ≡ suc (length (holders m v)))
-      × ((k : ℕ) → has k (holders (changed m (Insert c t marks)) v) ≡ eqb c k || has k (holders m v))
-  holders-insert = more-held _ _ c _ (more-insert m s c t marks r)
+  pub holders-insert : (v : ℕ) → has v (x .marks) ≡ true
+      → (length (holders (changed m (Insert c x)) v) ≡ suc (length (holders m v)))
+      × ((k : ℕ) → has k (holders (changed m (Insert c x)) v) ≡ eqb c k || has k (holders m v))
+  holders-insert = more-held _ _ c _ (more-insert m s c x r)
 
 module _ (m : Map) (s : Sound m) (c : ℕ) (r : MayRemove m c) where
   -- a removal leaves one fewer of its type

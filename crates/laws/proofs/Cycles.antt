@@ -24,7 +24,7 @@ module _ (m : Map) where
   pub sharers-has : (set : List ℕ) (k : ℕ) → has k (sharers m set) ≡ true → Half m k × (sameSet set (marksOf m k) ≡ true)
   unfolding sharers
   sharers-has set k e =
-      let r = select-out (λ k. isHalf m k && sameSet set (marksOf m k)) (8 * m .cells) k e in (
+      let r = select-out (λ k. isHalf m k && sameSet set (marksOf m k)) (8 * m .caps .cells) k e in (
         record { below = r .0; facet = and-left (isHalf m k) (sameSet set (marksOf m k)) (r .1) },
         and-right (isHalf m k) (sameSet set (marksOf m k)) (r .1),
       )
@@ -32,18 +32,18 @@ module _ (m : Map) where
   pub has-sharers : (set : List ℕ) (k : ℕ) → Half m k → sameSet set (marksOf m k) ≡ true → has k (sharers m set) ≡ true
   unfolding sharers
   has-sharers set k x e =
-      select-in (λ k. isHalf m k && sameSet set (marksOf m k)) (8 * m .cells) k (x .below)
+      select-in (λ k. isHalf m k && sameSet set (marksOf m k)) (8 * m .caps .cells) k (x .below)
       (and-both (isHalf m k) (sameSet set (marksOf m k)) (x .facet) e)
 
   pub sharers-ascend : (set : List ℕ) → Ascending (sharers m set)
   unfolding sharers
-  sharers-ascend set = select-ascends (λ k. isHalf m k && sameSet set (marksOf m k)) (8 * m .cells)
+  sharers-ascend set = select-ascends (λ k. isHalf m k && sameSet set (marksOf m k)) (8 * m .caps .cells)
 
   -- equal sets have the same sharers
   pub sharers-same : (a b : List ℕ) → sameSet a b ≡ true → sharers m a ≡ sharers m b
   unfolding sharers
   sharers-same a b e =
-      select-same (λ k. isHalf m k && sameSet a (marksOf m k)) (λ k. isHalf m k && sameSet b (marksOf m k)) (8 * m .cells)
+      select-same (λ k. isHalf m k && sameSet a (marksOf m k)) (λ k. isHalf m k && sameSet b (marksOf m k)) (8 * m .caps .cells)
       (λ k h. ap (λ (t : Bool). isHalf m k && t) (same-test-of a b (marksOf m k) e))
 
   pub siblings-ascend : (h : ℕ) → Ascending (siblings m h)

@@ -1,5 +1,5 @@
--- An edit of the list is the edit of the map, and every accepted edit keeps the map sound.
-use mathlib.Core.Path.{_≡_, refl, sym, ap, _∙_, fun-ext}
+-- Every edit keeps the capacities, and every accepted edit keeps the map sound.
+use mathlib.Core.Path.{_≡_, refl, sym, ap, _∙_}
 use mathlib.Core.Bool.{Bool, true, false, cond, not}
 use mathlib.Core.List.{List, [], _∷_}
 use mathlib.Core.Logic.{⊎-elim}
@@ -12,57 +12,40 @@ use Rattle.lists.specs.Lists.{has, all, repeats, sameSet}
 use Rattle.lists.proofs.Bools.{clash, either, and-left, and-right}
 use Rattle.lists.proofs.Sets.{same-sym}
 use Rattle.lists.proofs.Select.{select-in, select-out}
+use Rattle.numbers.specs.declared.Caps.{Caps}
 use Rattle.shapes.specs.Shapes.{shape, shapes, noShape}
-use Rattle.map.specs.Cells.{Body, Live, Map, noCell, bodyIn, mapOf, live, dimensionAt, holds, cellsOf}
+use Rattle.map.specs.Cells.{Body, Map, noCell, bodyIn, mapOf, live, dimensionAt, holds, cellsOf}
 use Rattle.map.specs.Stars.{holders}
 use Rattle.map.specs.Answers.{Check, _when_, answer, insertChecks, cellChecks}
-use Rattle.map.specs.History.{Mesh, mapIn, empty, without, Edit, Insert, Remove, editAnswer, made, changed, edited, history, editedMap, mapHistory}
+use Rattle.map.specs.History.{empty, Edit, Insert, Remove, editAnswer, put, changed, edited, history}
 use Rattle.map.specs.Sound.{Sound}
 use Rattle.lists.proofs.Counts.{none-has, has-none, select-none, select-fewer, select-more}
 
--- without a number, nothing stands under it, and under the others what stood there
-pub without-body : (c : ℕ) (l : List Live) (k : ℕ) → bodyIn (without c l) k ≡ cond (eqb c k) noCell (bodyIn l k)
-unfolding without bodyIn
-without-body c [] k = go (eqb c k)
-  where
-    go : (b : Bool) → noCell ≡ cond b noCell noCell
-    go true = refl
-    go false = refl
-without-body c (x ∷ xs) k = go (eqb (x .number) c) refl (eqb c k) refl (without-body c xs k)
-  where
-    go : (a : Bool) → eqb (x .number) c ≡ a → (b : Bool) → eqb c k ≡ b → bodyIn (without c xs) k ≡ cond b noCell (bodyIn xs k)
-        → bodyIn (cond a (without c xs) (x ∷ without c xs)) k ≡ cond b noCell (cond (eqb (x .number) k) (x .body) (bodyIn xs k))
-    go true e true f h = h
-    go true e false f h = rw (eqb-true (x .number) c e, f) h
-    go false e true f h = rw (rw (eqb-true c k f) at e) h
-    go false e false f h = rw h
-
--- the map of a mesh with an edit made is the map with the edit made
-pub mapIn-made : (m : Mesh) (e : Edit) → mapIn (made m e) ≡ changed (mapIn m) e
-unfolding mapIn made mapOf changed bodyIn
-mapIn-made m (Insert c t marks) = refl
-mapIn-made m (Remove c) =
-    ap (λ (at : ℕ → Body). record { marks = m .marks; cells = m .cells; at = at }) (fun-ext (without-body c (m .live)))
-
--- an edit of the mesh is the edit of its map
-pub mapIn-edited : (m : Mesh) (e : Edit) → mapIn (edited m e) ≡ editedMap (mapIn m) e
-unfolding edited editedMap
-mapIn-edited m e = go (eqb (editAnswer (mapIn m) e .refusal) 0)
-  where
-    go : (b : Bool) → mapIn (cond b (made m e) m) ≡ cond b (changed (mapIn m) e) (mapIn m)
-    go true = mapIn-made m e
-    go false = refl
-
--- and so is a whole history
-pub mapIn-history : (m : Mesh) (es : List Edit) → mapIn (history m es) ≡ mapHistory (mapIn m) es
-unfolding history mapHistory
-mapIn-history m [] = refl
-mapIn-history m (e ∷ es) = mapIn-history (edited m e) es ∙ ap (λ (n : Map). mapHistory n es) (mapIn-edited m e)
-
 -- an accepted edit is made
-pub edited-changed : (m : Map) (e : Edit) → editAnswer m e .refusal ≡ 0 → editedMap m e ≡ changed m e
-unfolding editedMap
+pub edited-changed : (m : Map) (e : Edit) → editAnswer m e .refusal ≡ 0 → edited m e ≡ changed m e
+unfolding edited
 edited-changed m e a = rw a
+
+-- an edit keeps the capacities
+pub changed-caps : (m : Map) (e : Edit) → changed m e .caps ≡ m .caps
+unfolding changed put
+changed-caps m (Insert c x) = refl
+changed-caps m (Remove c) = refl
+
+-- accepted or refused
+pub edited-caps : (m : Map) (e : Edit) → edited m e .caps ≡ m .caps
+unfolding edited
+edited-caps m e = go (eqb (editAnswer m e .refusal) 0)
+  where
+    go : (b : Bool) → cond b (changed m e) m .caps ≡ m .caps
+    go true = changed-caps m e
+    go false = refl
+
+-- and so does a whole history
+pub history-caps : (m : Map) (es : List Edit) → history m es .caps ≡ m .caps
+unfolding history
+history-caps m [] = refl
+history-caps m (e ∷ es) = history-caps (edited m e) es ∙ edited-caps m e
 
 -- where the answer is no refusal, no check fails
 passed : (checks : List Check) (values : List ℕ) → all (λ (c : Check). not (eqb (c .number) 0)) checks ≡ true
@@ -79,52 +62,52 @@ passed (c ∷ cs) values n e k = go (c .fails) refl e k (passed cs values (and-r
     go false f e (suc k) on = on e k
 
 -- what an insertion is accepted for
-pub record MayInsert (m : Map) (c t : ℕ) (marks : List ℕ) : Type 0 where
-  pub number : c < m .cells
+pub record MayInsert (m : Map) (c : ℕ) (x : Body) : Type 0 where
+  pub number : c < m .caps .cells
   pub free : live m c ≡ false
-  pub typed : 0 < shape t .dimension
-  pub count : length marks ≡ shape t .marks
-  pub inside : (v : ℕ) → has v marks ≡ true → v < m .marks
-  pub distinct : repeats marks ≡ false
-  pub new : (k : ℕ) → k < m .cells → m .at k .code ≡ t → sameSet (m .at k .marks) marks ≡ false
-  pub few : (v : ℕ) → has v marks ≡ true → length (holders m v) < 128
+  pub typed : 0 < shape (x .code) .dimension
+  pub count : length (x .marks) ≡ shape (x .code) .marks
+  pub inside : (v : ℕ) → has v (x .marks) ≡ true → v < m .caps .marks
+  pub distinct : repeats (x .marks) ≡ false
+  pub new : (k : ℕ) → k < m .caps .cells → m .at k .code ≡ x .code → sameSet (m .at k .marks) (x .marks) ≡ false
+  pub few : (v : ℕ) → has v (x .marks) ≡ true → length (holders m v) < 128
 
 -- what a removal is accepted for
 pub record MayRemove (m : Map) (c : ℕ) : Type 0 where
-  pub number : c < m .cells
+  pub number : c < m .caps .cells
   pub live : live m c ≡ true
 
-module _ (m : Map) (c t : ℕ) (marks : List ℕ) where
+module _ (m : Map) (c : ℕ) (x : Body) where
   -- an accepted insertion has all of that
-  pub may-insert : editAnswer m (Insert c t marks) .refusal ≡ 0 → MayInsert m c t marks
+  pub may-insert : editAnswer m (Insert c x) .refusal ≡ 0 → MayInsert m c x
   unfolding editAnswer insertChecks _when_ all cellsOf
   may-insert e =
-      let pass : (k : ℕ) → getD (insertChecks m c t marks) k (1 when false) .fails ≡ false = passed (insertChecks m c t marks) [] refl e in
+      let pass : (k : ℕ) → getD (insertChecks m c x) k (1 when false) .fails ≡ false = passed (insertChecks m c x) [] refl e in
       record {
         number = leb-false _ c (pass 0);
         free = pass 1;
-        typed = let typed = eqb-false (shape t .dimension) 0 (pass 2) in omega arith;
+        typed = let typed = eqb-false (shape (x .code) .dimension) 0 (pass 2) in omega arith;
         count = eqb-true _ _ (not-false _ (pass 3));
-        inside = λ v h. leb-false _ v (none-has _ marks (pass 4) v h);
+        inside = λ v h. leb-false _ v (none-has _ (x .marks) (pass 4) v h);
         distinct = pass 5;
-        new = λ k l same. none-has _ (cellsOf m t) (pass 6) k (select-in _ _ k l (eq-eqb _ t same));
-        few = λ v h. leb-false 128 _ (none-has _ marks (pass 7) v h);
+        new = λ k l same. none-has _ (cellsOf m (x .code)) (pass 6) k (select-in _ _ k l (eq-eqb _ (x .code) same));
+        few = λ v h. leb-false 128 _ (none-has _ (x .marks) (pass 7) v h);
       }
 
   -- and an insertion that has it is accepted
-  pub insert-may : MayInsert m c t marks → editAnswer m (Insert c t marks) .refusal ≡ 0
+  pub insert-may : MayInsert m c x → editAnswer m (Insert c x) .refusal ≡ 0
   unfolding editAnswer insertChecks _when_ answer cellsOf
   insert-may r =
       rw (
-        lt-leb (m .cells) c (r .number),
+        lt-leb (m .caps .cells) c (r .number),
         r .free,
-        ne-eqb (shape t .dimension) 0 (λ z. omega (arith, r .typed)),
+        ne-eqb (shape (x .code) .dimension) 0 (λ z. omega (arith, r .typed)),
         eq-eqb _ _ (r .count),
-        has-none (leb (m .marks)) marks (λ v h. lt-leb _ v (r .inside v h)),
+        has-none (leb (m .caps .marks)) (x .marks) (λ v h. lt-leb _ v (r .inside v h)),
         r .distinct,
-        has-none (λ k. sameSet (m .at k .marks) marks) (cellsOf m t)
-            (λ k h. let s = select-out _ _ k h in r .new k (s .0) (eqb-true _ t (s .1))),
-        has-none (λ v. leb 128 (length (holders m v))) marks (λ v h. lt-leb 128 _ (r .few v h)),
+        has-none (λ k. sameSet (m .at k .marks) (x .marks)) (cellsOf m (x .code))
+            (λ k h. let s = select-out _ _ k h in r .new k (s .0) (eqb-true _ (x .code) (s .1))),
+        has-none (λ v. leb 128 (length (holders m v))) (x .marks) (λ v h. lt-leb 128 _ (r .few v h)),
       )
 
 module _ (m : Map) (c : ℕ) where
@@ -138,7 +121,7 @@ module _ (m : Map) (c : ℕ) where
   -- and a live cell's removal is accepted
   pub remove-may : MayRemove m c → editAnswer m (Remove c) .refusal ≡ 0
   unfolding editAnswer cellChecks _when_ answer
-  remove-may r = rw (lt-leb (m .cells) c (r .number), r .live)
+  remove-may r = rw (lt-leb (m .caps .cells) c (r .number), r .live)
 
 -- a type stands there: the cell is live
 abbrev pub coded : Body → Bool
@@ -156,18 +139,18 @@ unfolding holds noCell has
 none-holds m c e v = rw e
 
 -- what soundness says of a single cell
-record Fits (marks cells c : ℕ) (x : Body) : Type 0 where
-  below : coded x ≡ true → c < cells
+record Fits (caps : Caps) (c : ℕ) (x : Body) : Type 0 where
+  below : coded x ≡ true → c < caps .cells
   dead : coded x ≡ false → x ≡ noCell
   typed : coded x ≡ true → 0 < shape (x .code) .dimension
   fitting : length (x .marks) ≡ shape (x .code) .marks
-  inside : (v : ℕ) → has v (x .marks) ≡ true → v < marks
+  inside : (v : ℕ) → has v (x .marks) ≡ true → v < caps .marks
   distinct : repeats (x .marks) ≡ false
 
 -- no cell fits everywhere
-fits-none : (marks cells c : ℕ) → Fits marks cells c noCell
+fits-none : (caps : Caps) (c : ℕ) → Fits caps c noCell
 unfolding noCell shape shapes noShape has repeats
-fits-none marks cells c = record {
+fits-none caps c = record {
   below = λ e. absurd (clash e refl);
   dead = λ e. refl;
   typed = λ e. absurd (clash e refl);
@@ -182,7 +165,7 @@ Alone a x b y = coded x ≡ true → x .code ≡ y .code → sameSet (x .marks) 
 
 module _ (m : Map) where
   -- each cell of a sound map fits
-  sound-fits : Sound m → (c : ℕ) → Fits (m .marks) (m .cells) c (m .at c)
+  sound-fits : Sound m → (c : ℕ) → Fits (m .caps) c (m .at c)
   unfolding live dimensionAt holds
   sound-fits s c = record {
     below = s .below c;
@@ -194,7 +177,7 @@ module _ (m : Map) where
   }
 
   -- a map of fitting cells is sound where no two are alike and no mark stands in too many
-  fits-sound : ((c : ℕ) → Fits (m .marks) (m .cells) c (m .at c)) → ((a b : ℕ) → Alone a (m .at a) b (m .at b))
+  fits-sound : ((c : ℕ) → Fits (m .caps) c (m .at c)) → ((a b : ℕ) → Alone a (m .at a) b (m .at b))
       → ((v : ℕ) → length (holders m v) ≤ 128) → Sound m
   unfolding live dimensionAt holds
   fits-sound f alone few = record {
@@ -209,15 +192,11 @@ module _ (m : Map) where
   }
 
 -- a formatted mesh is sound
-pub sound-empty : (marks cells : ℕ) → Sound (mapIn (empty marks cells))
-unfolding mapIn empty mapOf bodyIn noCell holders holds has
-sound-empty marks cells =
-    fits-sound (mapIn (empty marks cells)) (fits-none marks cells) (λ a b e. absurd (clash e refl))
-    (λ v. rw (select-none (holds (mapIn (empty marks cells)) v) cells (λ k. refl)) (omega arith))
-
--- the map with another cell, or none, under a number
-unfoldable pub put : Map → ℕ → Body → Map
-put m c x = record { marks = m .marks; cells = m .cells; at = λ k. cond (eqb c k) x (m .at k) }
+pub sound-empty : (caps : Caps) → Sound (empty caps)
+unfolding empty mapOf bodyIn noCell holders holds has
+sound-empty caps =
+    fits-sound (empty caps) (fits-none caps) (λ a b e. absurd (clash e refl))
+    (λ v. rw (select-none (holds (empty caps) v) (caps .cells) (λ k. refl)) (omega arith))
 
 module _ (m : Map) (c : ℕ) (x : Body) where
   -- what holds of the new cell and of each other holds of each
@@ -233,23 +212,23 @@ module _ (m : Map) (c : ℕ) (x : Body) where
   holders-fewer : (v : ℕ) → has v (x .marks) ≡ false → length (holders (put m c x) v) ≤ length (holders m v)
   unfolding holders holds put
   holders-fewer v e =
-      select-fewer (holds (put m c x) v) (holds m v) (m .cells)
+      select-fewer (holds (put m c x) v) (holds m v) (m .caps .cells)
       (put-all (λ k y. has v (y .marks) ≡ true → has v (m .at k .marks) ≡ true) (λ h. absurd (clash h e)) (λ k n h. h))
 
   -- a mark that it has, and the old had not, stands in one more
-  pub holders-more : (v : ℕ) → c < m .cells → holds m v c ≡ false → has v (x .marks) ≡ true
+  pub holders-more : (v : ℕ) → c < m .caps .cells → holds m v c ≡ false → has v (x .marks) ≡ true
       → length (holders (put m c x) v) ≡ suc (length (holders m v))
   unfolding holders holds put
   holders-more v l e h =
-      select-more (holds m v) (holds (put m c x) v) c (m .cells) l e (rw (eq-eqb c c refl) h) (λ k n. rw (ne-eqb c k n))
+      select-more (holds m v) (holds (put m c x) v) c (m .caps .cells) l e (rw (eq-eqb c c refl) h) (λ k n. rw (ne-eqb c k n))
 
   -- the map stays sound with another cell that fits and is like no other, of marks that stand in less than 128 cells
-  sound-put : Sound m → c < m .cells → Fits (m .marks) (m .cells) c x
+  sound-put : Sound m → c < m .caps .cells → Fits (m .caps) c x
       → (coded x ≡ true → (k : ℕ) → m .at k .code ≡ x .code → sameSet (m .at k .marks) (x .marks) ≡ true → ⊥)
       → ((v : ℕ) → has v (x .marks) ≡ true → (holds m v c ≡ false) × (length (holders m v) < 128)) → Sound (put m c x)
   unfolding put live
   sound-put s l fit new few =
-      fits-sound (put m c x) (put-all (Fits (m .marks) (m .cells)) fit (λ k n. sound-fits m s k))
+      fits-sound (put m c x) (put-all (Fits (m .caps)) fit (λ k n. sound-fits m s k))
       (put-all (λ a y. (b : ℕ) → Alone a y b (put m c x .at b))
       (put-all (Alone c x) (λ i j e. refl) (λ b n i j e. absurd (new i b (sym j) (same-sym _ _ e))))
       (λ a n. put-all (Alone a (m .at a)) (λ i j e. absurd (new (rw j at i) a j e)) (λ b n. s .alone a b)))
@@ -258,13 +237,13 @@ module _ (m : Map) (c : ℕ) (x : Body) where
 
 module _ (m : Map) (s : Sound m) where
   -- an accepted insertion keeps the map sound
-  pub sound-insert : (c t : ℕ) (marks : List ℕ) → MayInsert m c t marks → Sound (changed m (Insert c t marks))
-  unfolding changed put live
-  sound-insert c t marks r =
-      sound-put m c (record { code = t; marks = marks }) s (r .number)
+  pub sound-insert : (c : ℕ) (x : Body) → MayInsert m c x → Sound (changed m (Insert c x))
+  unfolding changed live
+  sound-insert c x r =
+      sound-put m c x s (r .number)
       (record {
         below = λ e. r .number;
-        dead = λ e. absurd (clash (typed-coded t (r .typed)) e);
+        dead = λ e. absurd (clash (typed-coded (x .code) (r .typed)) e);
         typed = λ e. r .typed;
         fitting = r .count;
         inside = r .inside;
@@ -275,33 +254,29 @@ module _ (m : Map) (s : Sound m) where
 
   -- so does a removal
   pub sound-remove : (c : ℕ) → MayRemove m c → Sound (changed m (Remove c))
-  unfolding changed put noCell has
-  sound-remove c r = sound-put m c noCell s (r .number) (fits-none _ _ c) (λ e. absurd (clash e refl)) (λ v e. absurd (clash e refl))
+  unfolding changed noCell has
+  sound-remove c r = sound-put m c noCell s (r .number) (fits-none _ c) (λ e. absurd (clash e refl)) (λ v e. absurd (clash e refl))
 
   -- every accepted edit keeps the map sound
   pub sound-changed : (e : Edit) → editAnswer m e .refusal ≡ 0 → Sound (changed m e)
-  sound-changed (Insert c t marks) a = sound-insert c t marks (may-insert m c t marks a)
+  sound-changed (Insert c x) a = sound-insert c x (may-insert m c x a)
   sound-changed (Remove c) a = sound-remove c (may-remove m c a)
 
   -- each edit keeps it sound, accepted or refused
-  pub sound-edited : (e : Edit) → Sound (editedMap m e)
-  unfolding editedMap
+  pub sound-edited : (e : Edit) → Sound (edited m e)
+  unfolding edited
   sound-edited e = go (eqb (editAnswer m e .refusal) 0) refl
     where
       go : (b : Bool) → eqb (editAnswer m e .refusal) 0 ≡ b → Sound (cond b (changed m e) m)
       go true a = sound-changed e (eqb-true _ 0 a)
       go false a = s
 
--- the map of a mesh with an accepted edit made is sound
-pub sound-made : (m : Mesh) (e : Edit) → Sound (mapIn m) → editAnswer (mapIn m) e .refusal ≡ 0 → Sound (mapIn (made m e))
-sound-made m e s a = rw mapIn-made (sound-changed (mapIn m) s e a)
-
 -- a whole history keeps it sound
-pub sound-history : (m : Map) (es : List Edit) → Sound m → Sound (mapHistory m es)
-unfolding mapHistory
+pub sound-history : (m : Map) (es : List Edit) → Sound m → Sound (history m es)
+unfolding history
 sound-history m [] s = s
-sound-history m (e ∷ es) s = sound-history (editedMap m e) es (sound-edited m s e)
+sound-history m (e ∷ es) s = sound-history (edited m e) es (sound-edited m s e)
 
 -- every mesh that edits leave from a formatted one is sound
-pub sound-mesh : (marks cells : ℕ) (es : List Edit) → Sound (mapIn (history (empty marks cells) es))
-sound-mesh marks cells es = rw mapIn-history (sound-history _ es (sound-empty marks cells))
+pub sound-mesh : (caps : Caps) (es : List Edit) → Sound (history (empty caps) es)
+sound-mesh caps es = sound-history _ es (sound-empty caps)

@@ -24,9 +24,9 @@ unfolding isHalf
 no-half m h e q = omega (arith, ltb-true (h % 8) (length (facetsAt m (h / 8))) e, ap length q)
 
 pub half-live : (m : Map) → Sound m → (h : ℕ) → isHalf m h ≡ true → Half m h
-half-live m s h e = record { below = go (decLt (h / 8) (m .cells)); facet = e }
+half-live m s h e = record { below = go (decLt (h / 8) (m .caps .cells)); facet = e }
   where
-    go : Dec (h / 8 < m .cells) → h < 8 * m .cells
+    go : Dec (h / 8 < m .caps .cells) → h < 8 * m .caps .cells
     go (yes less) = omega arith
     go (no f) = absurd (none e (s .dead (h / 8) (not-true-false (live m (h / 8)) (λ l. f (s .below (h / 8) l)))))
       where

@@ -8,3 +8,4 @@ pub mod Rebuild
 pub mod Halves
 pub mod Local
 pub mod Counted
+pub mod Facets

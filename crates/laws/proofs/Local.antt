@@ -13,22 +13,22 @@ use Rattle.lists.proofs.Members.{any-at, at-any, at-has}
 use Rattle.lists.proofs.Sets.{same-has}
 use Rattle.lists.proofs.Select.{select-same}
 use Rattle.lists.proofs.Keep.{keep-out}
+use Rattle.numbers.specs.declared.Caps.{Caps}
 use Rattle.shapes.specs.Shapes.{shape}
 use Rattle.shapes.proofs.Facts.{facts}
 use Rattle.map.specs.Cells.{Body, Map, noCell, dimensionAt, holds, facetsAt, shares}
 use Rattle.map.specs.Siblings.{isHalf, marksOf, sharers, siblings, sibling, border}
 use Rattle.map.specs.Groups.{grow, grown, groupOf}
 use Rattle.map.specs.Stars.{holders, star, linked, group, halvesAt, anchor, anchors}
-use Rattle.map.specs.History.{Edit, Insert, Remove, editAnswer, changed}
+use Rattle.map.specs.History.{Edit, Insert, Remove, editAnswer, put, changed}
 use Rattle.map.specs.Sound.{Sound}
 use Rattle.lists.proofs.Alike.{one-or-other, keep-same, any-same, map-at, select-alike, and-false}
 use Rattle.laws.proofs.Anchors.{star-has, halves-has}
-use Rattle.laws.proofs.Edits.{MayInsert, MayRemove, may-insert, may-remove, put, sound-insert, sound-remove}
+use Rattle.laws.proofs.Edits.{MayInsert, MayRemove, may-insert, may-remove, sound-insert, sound-remove}
 
 -- the maps differ under the number c only, and in both every cell has as many marks as its type says
 pub record Apart (m m′ : Map) (c : ℕ) : Type 0 where
-  pub marks : m′ .marks ≡ m .marks
-  pub cells : m′ .cells ≡ m .cells
+  pub caps : m′ .caps ≡ m .caps
   pub other : (k : ℕ) → (k ≡ c → ⊥) → m′ .at k ≡ m .at k
   pub fitting : (k : ℕ) → length (m .at k .marks) ≡ shape (m .at k .code) .marks
   pub fitting′ : (k : ℕ) → length (m′ .at k .marks) ≡ shape (m′ .at k .code) .marks
@@ -81,14 +81,13 @@ groups-same link link′ s agree a = go (length s) (keep (λ b. eqb b a) s) (λ 
 
 -- the cells that pass, by their type and marks
 abbrev pub picked : Map → (Body → Bool) → List ℕ
-picked m p = select (λ k. p (m .at k)) (m .cells)
+picked m p = select (λ k. p (m .at k)) (m .caps .cells)
 
 module _ (m m′ : Map) (c : ℕ) (a : Apart m m′ c) where
   -- the difference is the same either way round
   pub apart-back : Apart m′ m c
   apart-back = record {
-    marks = sym (a .marks);
-    cells = sym (a .cells);
+    caps = sym (a .caps);
     other = λ k n. sym (a .other k n);
     fitting = a .fitting′;
     fitting′ = a .fitting;
@@ -97,8 +96,8 @@ module _ (m m′ : Map) (c : ℕ) (a : Apart m m′ c) where
   -- a test that says the same of the cell in both maps picks the same cells
   pub picked-same : (p : Body → Bool) → p (m′ .at c) ≡ p (m .at c) → picked m′ p ≡ picked m p
   picked-same p e =
-      rw (a .cells)
-      (select-same _ _ (m .cells)
+      rw (a .caps)
+      (select-same _ _ (m .caps .cells)
       (λ k l. one-or-other c (λ k. p (m′ .at k) ≡ p (m .at k)) e (λ k n. ap p (a .other k n)) k))
 
   -- the half-facets of the other cells are the same
@@ -107,8 +106,8 @@ module _ (m m′ : Map) (c : ℕ) (a : Apart m m′ c) where
   half-other h n = (rw (a .other (h / 8) n), rw (a .other (h / 8) n))
 
   -- tests that agree select the same half-facets
-  halves-listed : (p q : ℕ → Bool) → ((h : ℕ) → p h ≡ q h) → select p (8 * m′ .cells) ≡ select q (8 * m .cells)
-  halves-listed p q f = rw (a .cells) (select-same p q (8 * m .cells) (λ h l. f h))
+  halves-listed : (p q : ℕ → Bool) → ((h : ℕ) → p h ≡ q h) → select p (8 * m′ .caps .cells) ≡ select q (8 * m .caps .cells)
+  halves-listed p q f = rw (a .caps) (select-same p q (8 * m .caps .cells) (λ h l. f h))
 
   -- a test that no facet of the cell passes, in neither map, is passed by the same half-facets
   halves-same : (p : List ℕ → Bool) → any p (facetsAt m c) ≡ false → any p (facetsAt m′ c) ≡ false
@@ -127,7 +126,7 @@ module _ (m m′ : Map) (c : ℕ) (a : Apart m m′ c) where
   -- every set has the same sharers among the half-facets of the other cells
   pub sharers-at : (set : List ℕ) (h : ℕ) → (h / 8 ≡ c → ⊥) → has h (sharers m′ set) ≡ has h (sharers m set)
   unfolding sharers
-  sharers-at set h n = let r = half-other h n in select-alike _ _ _ _ h (ap (_*_ 8) (a .cells)) (rw (r .0, r .1))
+  sharers-at set h n = let r = half-other h n in select-alike _ _ _ _ h (ap (λ (caps : Caps). 8 * caps .cells) (a .caps)) (rw (r .0, r .1))
 
   -- with the same siblings a half-facet has the same sibling, and is a border as before
   same-siblings : (h : ℕ) → siblings m′ h ≡ siblings m h → (sibling m′ h ≡ sibling m h) × (border m′ h ≡ border m h)
@@ -222,7 +221,7 @@ module _ (m m′ : Map) (c : ℕ) (a : Apart m m′ c) where
 -- the second map has one cell more: x, under the number c
 pub record OneMore (m m′ : Map) (c : ℕ) (x : Body) : Type 0 where
   pub apart : Apart m m′ c
-  pub number : c < m .cells
+  pub number : c < m .caps .cells
   pub before : m .at c ≡ noCell
   pub after : m′ .at c ≡ x
 
@@ -231,19 +230,17 @@ module _ (m : Map) (s : Sound m) (c : ℕ) where
   apart-put : (x : Body) → Sound (put m c x) → Apart m (put m c x) c
   unfolding put
   apart-put x s′ = record {
-    marks = refl;
-    cells = refl;
+    caps = refl;
     other = λ k n. rw (ne-eqb c k (λ z. n (sym z)));
     fitting = s .fitting;
     fitting′ = s′ .fitting;
   }
 
   -- an accepted insertion makes one cell more
-  pub more-insert : (t : ℕ) (marks : List ℕ) → MayInsert m c t marks
-      → OneMore m (changed m (Insert c t marks)) c (record { code = t; marks = marks })
+  pub more-insert : (x : Body) → MayInsert m c x → OneMore m (changed m (Insert c x)) c x
   unfolding changed put
-  more-insert t marks r = record {
-    apart = apart-put _ (sound-insert m s c t marks r);
+  more-insert x r = record {
+    apart = apart-put _ (sound-insert m s c x r);
     number = r .number;
     before = s .dead c (r .free);
     after = rw (eq-eqb c c refl);
@@ -260,8 +257,8 @@ module _ (m : Map) (s : Sound m) (c : ℕ) where
   }
 
   -- so an insertion changes the map under one number only
-  pub apart-insert : (t : ℕ) (marks : List ℕ) → MayInsert m c t marks → Apart m (changed m (Insert c t marks)) c
-  apart-insert t marks r = more-insert t marks r .apart
+  pub apart-insert : (x : Body) → MayInsert m c x → Apart m (changed m (Insert c x)) c
+  apart-insert x r = more-insert x r .apart
 
   -- and so does a removal
   pub apart-remove : MayRemove m c → Apart m (changed m (Remove c)) c
@@ -269,13 +266,13 @@ module _ (m : Map) (s : Sound m) (c : ℕ) where
 
 -- the number of the cell that an edit puts or takes
 abbrev pub cellOf : Edit → ℕ
-cellOf (Insert c t marks) = c
+cellOf (Insert c x) = c
 cellOf (Remove c) = c
 
 -- and the cell
-abbrev pub bodyOf : Map → Edit → Body
-bodyOf m (Insert c t marks) = record { code = t; marks = marks }
-bodyOf m (Remove c) = m .at c
+abbrev pub editBody : Map → Edit → Body
+editBody m (Insert c x) = x
+editBody m (Remove c) = m .at c
 
 -- one cell more or less: in neither map the number holds a mark that the cell has not
 pub more-free : (m m′ : Map) (c : ℕ) (x : Body) → OneMore m m′ c x → (v : ℕ) → has v (x .marks) ≡ false → Free m m′ c v
@@ -285,11 +282,11 @@ more-free m m′ c x r v e = (rw (r .before), rw (r .after) e)
 module _ (m : Map) (s : Sound m) where
   -- every accepted edit changes the map under one number only
   pub apart-changed : (e : Edit) → editAnswer m e .refusal ≡ 0 → Apart m (changed m e) (cellOf e)
-  apart-changed (Insert c t marks) a = apart-insert m s c t marks (may-insert m c t marks a)
+  apart-changed (Insert c x) a = apart-insert m s c x (may-insert m c x a)
   apart-changed (Remove c) a = apart-remove m s c (may-remove m c a)
 
   -- and changes nothing at a mark that its cell has not
-  pub free-changed : (e : Edit) → editAnswer m e .refusal ≡ 0 → (v : ℕ) → has v (bodyOf m e .marks) ≡ false
+  pub free-changed : (e : Edit) → editAnswer m e .refusal ≡ 0 → (v : ℕ) → has v (editBody m e .marks) ≡ false
       → Free m (changed m e) (cellOf e) v
-  free-changed (Insert c t marks) a v e = more-free _ _ c _ (more-insert m s c t marks (may-insert m c t marks a)) v e
+  free-changed (Insert c x) a v e = more-free _ _ c _ (more-insert m s c x (may-insert m c x a)) v e
   free-changed (Remove c) a v e = let f = more-free _ _ c _ (more-remove m s c (may-remove m c a)) v e in (f .1, f .0)

@@ -7,6 +7,7 @@ use borrow.Author.Tests.{eq-eqb, eqb-true}
 use lib.Dec.{eqb}
 use Rattle.lists.specs.Lists.{has, repeats, all}
 use Rattle.lists.proofs.Bools.{clash, or-left}
+use Rattle.numbers.specs.declared.Caps.{Caps}
 use Rattle.map.specs.Cells.{Body, Live, Map, bodyIn, mapOf}
 use Rattle.lists.proofs.Counts.{neither, eqb-swap}
 
@@ -101,16 +102,16 @@ shuffled-same (swapped {x} {y} {a}) d c = turn (eqb (x .number) c) refl (eqb (y 
     turn false e q f = refl
 shuffled-same (then s t) d c = shuffled-same s d c ∙ shuffled-same t (shuffled-distinct s d) c
 
-module _ (marks cells : ℕ) (a b : List Live) where
+module _ (caps : Caps) (a b : List Live) where
   -- where the same stands under each number, it is the same map
-  pub same-bodies : ((c : ℕ) → bodyIn a c ≡ bodyIn b c) → mapOf marks cells a ≡ mapOf marks cells b
+  pub same-bodies : ((c : ℕ) → bodyIn a c ≡ bodyIn b c) → mapOf caps a ≡ mapOf caps b
   unfolding mapOf
-  same-bodies f = ap (λ (at : ℕ → Body). record { marks = marks; cells = cells; at = at }) (fun-ext f)
+  same-bodies f = ap (λ (at : ℕ → Body). record { caps = caps; at = at }) (fun-ext f)
 
   -- a shuffled list gives the same map
-  pub order-free : Shuffled a b → Distinct a → mapOf marks cells a ≡ mapOf marks cells b
+  pub order-free : Shuffled a b → Distinct a → mapOf caps a ≡ mapOf caps b
   order-free s d = same-bodies (shuffled-same s d)
 
   -- and so every answer is the same
-  pub order-free-answer : {A : Type 0} (f : Map → A) → Shuffled a b → Distinct a → f (mapOf marks cells a) ≡ f (mapOf marks cells b)
+  pub order-free-answer : {A : Type 0} (f : Map → A) → Shuffled a b → Distinct a → f (mapOf caps a) ≡ f (mapOf caps b)
   order-free-answer f s d = ap f (order-free s d)

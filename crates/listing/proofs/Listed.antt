@@ -9,6 +9,7 @@ use borrow.Author.Tests.{lt-ltb, le-ltb, ne-eqb}
 use lib.Dec.{ltb}
 use lib.ListN.{getD, length, drop, length-append, length-drop}
 use lib.Seq.{getD-append-add, getD-drop}
+use Rattle.lists.proofs.Mapped.{copied-list}
 use Rattle.lists.specs.Lists.{listOf}
 use Rattle.lists.specs.Filled.{Copied}
 use Rattle.lists.proofs.Bools.{clash}
@@ -19,17 +20,17 @@ use Rattle.store.specs.declared.Opened.the-variants.{Mesh, Nothing}
 use Rattle.store.specs.Open.{opened}
 use Rattle.map.specs.Cells.{Map}
 use Rattle.map.specs.Answers.{Check, Answer, _when_, answer, listAnswer}
-use Rattle.map.specs.Paper.{numberOf, given, refused, valueSays, verdictSays}
+use Rattle.map.specs.Says.{numberOf, given, refused, valueSays, verdictSays}
 use Rattle.map.specs.declared.Refusal.{Refusal}
 use Rattle.map.specs.declared.Refusal.the-variants.{NotMesh, OutputShort}
 use Rattle.map.specs.declared.Value.{Value}
 use Rattle.map.specs.declared.Value.the-variants as Val
 use Rattle.map.specs.declared.Verdict.{Verdict}
 use Rattle.map.specs.declared.Verdict.the-variants.{Accepted, Refused}
-use Rattle.picture.specs.State.{capsOf}
 use Rattle.picture.specs.Picture.{Wf}
 use Rattle.checks.specs.Checked.{Checked}
-use Rattle.checks.proofs.Values.{Numbered, number-some, refused-more, given-more}
+use Rattle.map.proofs.Refusals.{number-some}
+use Rattle.checks.proofs.Values.{Numbered, refused-more, given-more}
 use Rattle.map.specs.Stars.{star, anchors}
 use Rattle.shapes.specs.Table.{table}
 use Rattle.group.specs.Group.{Around}
@@ -46,11 +47,6 @@ use Rattle.listing.specs.Listing.{listed, Listing, Given}
 listed-refused : (a : Answer) (why : Refusal) (l o : List ℕ) → refused why ≡ a → o ≡ listed a l o
 unfolding listed refused
 listed-refused a why l o e = rw (← e, ne-eqb (numberOf why) 0 (λ z. omega (arith, number-some why)))
-
--- the first n numbers of a copied list
-pub copied-list : (l zeros from : List ℕ) (n : ℕ) → n ≤ length zeros → Copied l zeros n from → listOf n (λ i. getD from i 0) ≡ l
-copied-list l zeros from n room c =
-    listOf-take from n (omega (arith, c .filled .size)) ∙ rw (c .count) (filled-take l zeros from (c .filled) (omega (arith, c .count)))
 
 -- a refusal gives no count, and a count is no refusal
 not-given : (n : ℕ) (why : Refusal) → Val.Refused why ≡ Val.Is n → ⊥
@@ -99,7 +95,7 @@ module _ (w : List ℕ) (checks : Map → List Check) (list : Map → List ℕ) 
           (ap verdictSays (sym v) ∙ checked .says m (wf-caps w m wf caps opens) wf)
 
       -- the output is shorter than the list
-      pub listing-short : (n : ℕ) → length o < n → ((m : Map) → capsOf m ≡ caps → Wf w m → n ≡ length (list m))
+      pub listing-short : (n : ℕ) → length o < n → ((m : Map) → m .caps ≡ caps → Wf w m → n ≡ length (list m))
           → Listing w checks list o (Val.Refused OutputShort) o
       unfolding _when_ answer valueSays refused listed
       listing-short n h counts = record {
@@ -114,7 +110,7 @@ module _ (w : List ℕ) (checks : Map → List Check) (list : Map → List ℕ) 
 
       -- the list stands in the first places of the output
       pub listing-wrote : (n : ℕ) (o′ : List ℕ) → n ≤ length o → Only (λ i. i < n) o o′
-          → ((m : Map) → capsOf m ≡ caps → Wf w m → (n ≡ length (list m)) × (o′ ≡ list m ++ drop (length (list m)) o))
+          → ((m : Map) → m .caps ≡ caps → Wf w m → (n ≡ length (list m)) × (o′ ≡ list m ++ drop (length (list m)) o))
           → Listing w checks list o (Val.Is n) o′
       unfolding _when_ answer valueSays given listed
       listing-wrote n o′ h only written = record {
@@ -127,17 +123,17 @@ module _ (w : List ℕ) (checks : Map → List Check) (list : Map → List ℕ) 
             rw (← behind m wf, fits) (ap (λ (k : ℕ). record { refusal = 0; values = k ∷ [] }) (p .0), p .1);
       }
 
-      module _ (zeros from : List ℕ) (n : ℕ) (room : (m : Map) → capsOf m ≡ caps → Wf w m → n ≤ length zeros)
-          (lists : (m : Map) → capsOf m ≡ caps → Wf w m → Copied (list m) zeros n from) where
+      module _ (zeros from : List ℕ) (n : ℕ) (room : (m : Map) → m .caps ≡ caps → Wf w m → n ≤ length zeros)
+          (lists : (m : Map) → m .caps ≡ caps → Wf w m → Copied (list m) zeros n from) where
         -- the first n numbers are the list
-        whole : (m : Map) → capsOf m ≡ caps → Wf w m → (n ≡ length (list m)) × (listOf n (λ i. getD from i 0) ≡ list m)
+        whole : (m : Map) → m .caps ≡ caps → Wf w m → (n ≡ length (list m)) × (listOf n (λ i. getD from i 0) ≡ list m)
         whole m e wf =
             (lists m e wf .count, copied-list (list m) zeros from n (room m e wf) (lists m e wf))
 
         pub listing-given : (r : Value) (o′ : List ℕ) → Given from n o r o′ → Listing w checks list o r o′
         listing-given r o′ g = go (decLt (length o) n)
           where
-            gives : n ≤ length o → (m : Map) → capsOf m ≡ caps → Wf w m → (n ≡ length (list m)) × (o′ ≡ list m ++ drop (length (list m)) o)
+            gives : n ≤ length o → (m : Map) → m .caps ≡ caps → Wf w m → (n ≡ length (list m)) × (o′ ≡ list m ++ drop (length (list m)) o)
             gives h m e wf =
                 let p = whole m e wf in
                 (p .0, rw (← p .1, length-listOf) (g .fits h .1))
@@ -153,13 +149,13 @@ module _ (w : List ℕ) (checks : Map → List Check) (list : Map → List ℕ) 
 
 -- what a reader gives on the state of a map
 pub gives-list : (w : List ℕ) (caps : Caps) (most : ℕ) (ok : State → Type 0) (list : Map → List ℕ) (o o′ : List ℕ) (r : ℕ) → Gives w caps most ok list o r o′
-    → (m : Map) (e : capsOf m ≡ caps) (wf : Wf w m) → ok (stateOf m) → Copied (list m) o r o′
+    → (m : Map) (e : m .caps ≡ caps) (wf : Wf w m) → ok (stateOf m) → Copied (list m) o r o′
 gives-list w caps most ok list o o′ r g m e wf k = rw (wf-map w caps m e wf) at (g .gives (stateOf m) (wf-pic w caps m e wf) k)
 
 -- the star of a mark that passed its checks
 pub star-lists : (w : List ℕ) (caps : Caps) (d v : ℕ) (verdict : Verdict) → Checked w caps (λ m. starChecks m d v) verdict → verdict ≡ Accepted
     → (zeros from : List ℕ) (n : ℕ) → Gives w caps 128 (AtMark caps v) (λ m. star m d v) zeros n from
-    → (m : Map) → capsOf m ≡ caps → Wf w m → Copied (star m d v) zeros n from
+    → (m : Map) → m .caps ≡ caps → Wf w m → Copied (star m d v) zeros n from
 star-lists w caps d v verdict k a zeros from n g m e wf =
     gives-list w caps 128 (AtMark caps v) (λ m. star m d v) zeros from n g m e wf
     (record { ready = wf-settled w caps m e wf .ready; mark = omega (arith, star-passed w caps verdict a m e wf d v k .2, marks-of caps m e) })
@@ -168,7 +164,7 @@ star-lists w caps d v verdict k a zeros from n g m e wf =
 pub anchors-list : (w : List ℕ) (caps : Caps) (d v : ℕ) (verdict : Verdict) → Checked w caps (λ m. starChecks m d v) verdict → verdict ≡ Accepted
     → (rows : List (List (List ℕ))) → rows ≡ table
     → (zeros from : List ℕ) (n : ℕ) → Gives w caps 128 (Around caps rows v) (λ m. anchors m d v) zeros n from
-    → (m : Map) → capsOf m ≡ caps → Wf w m → Copied (anchors m d v) zeros n from
+    → (m : Map) → m .caps ≡ caps → Wf w m → Copied (anchors m d v) zeros n from
 anchors-list w caps d v verdict k a rows t zeros from n g m e wf =
     gives-list w caps 128 (Around caps rows v) (λ m. anchors m d v) zeros from n g m e wf
     (record {

@@ -8,10 +8,10 @@ use lib.Dec.{eqb}
 use lib.ListN.{getD, length, drop}
 use Rattle.lists.specs.Lists.{listOf}
 use Rattle.words.specs.Words.{Only}
-use Rattle.store.specs.Slots.{isMesh}
+use Rattle.store.specs.Open.{isMesh}
 use Rattle.map.specs.Cells.{Map}
 use Rattle.map.specs.Answers.{Check, Answer, listAnswer}
-use Rattle.map.specs.Paper.{valueSays}
+use Rattle.map.specs.Says.{valueSays}
 use Rattle.map.specs.declared.Refusal.{Refusal}
 use Rattle.map.specs.declared.Refusal.the-variants.{NotMesh, OutputShort}
 use Rattle.map.specs.declared.Value.{Value}

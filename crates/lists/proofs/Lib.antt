@@ -13,3 +13,4 @@ pub mod Alike
 pub mod Cyclic
 pub mod Every
 pub mod Through
+pub mod Mapped

@@ -9,7 +9,7 @@ use native.Mathlib.Omega.{arith}
 use borrow.Author.Tests.{eq-eqb, ne-eqb, eqb-true}
 use lib.Dec.{eqb}
 use lib.ListN.{length, getD}
-use Rattle.lists.specs.Lists.{any, all, has, keep, first, repeats}
+use Rattle.lists.specs.Lists.{any, all, has, keep, first, place, repeats}
 use Rattle.lists.proofs.Bools.{clash, either, not-true-false, and-left, and-right, and-both, or-cases, or-left, or-right, same-test}
 
 module _ {A : Type 0} (p : A → Bool) where
@@ -133,3 +133,19 @@ once (x ∷ xs) r (suc i) zero hi hj e =
     absurd (clash (or-left (has x xs) (repeats xs) (rw (sym e) (at-has xs i (le-of-suc-le-suc hi)))) r)
 once (x ∷ xs) r (suc i) (suc j) hi hj e =
     ap suc (once xs (not-true-false (repeats xs) (λ t. clash (or-right (has x xs) (repeats xs) t) r)) i j (le-of-suc-le-suc hi) (le-of-suc-le-suc hj) e)
+
+-- the first place of a number: it stands there, and where numbers are distinct nowhere else
+pub place-at : (v : ℕ) (l : List ℕ) → has v l ≡ true → (place v l < length l) × (getD l (place v l) 0 ≡ v)
+unfolding has place
+place-at v [] e = absurd (clash e refl)
+place-at v (x ∷ xs) e = go (eqb x v) refl e (place-at v xs)
+  where
+    go : (b : Bool) → eqb x v ≡ b → (b || has v xs) ≡ true → (has v xs ≡ true → (place v xs < length xs) × (getD xs (place v xs) 0 ≡ v))
+        → (cond b 0 (suc (place v xs)) < suc (length xs)) × (getD (x ∷ xs) (cond b 0 (suc (place v xs))) 0 ≡ v)
+    go true q h f = (omega arith, eqb-true x v q)
+    go false q h f = (omega (arith, f h .0), f h .1)
+
+pub place-is : (l : List ℕ) → repeats l ≡ false → (j : ℕ) → j < length l → place (getD l j 0) l ≡ j
+place-is l d j h =
+    let p = place-at (getD l j 0) l (at-has l j h) in
+    once l d (place (getD l j 0) l) j (p .0) h (p .1)

@@ -19,6 +19,11 @@ unfoldable pub has : ℕ → List ℕ → Bool
 has v [] = false
 has v (x ∷ xs) = eqb x v || has v xs
 
+-- the first place of v in the list; the length where it is none of it
+unfoldable pub place : ℕ → List ℕ → ℕ
+place v [] = 0
+place v (x ∷ xs) = cond (eqb x v) 0 (suc (place v xs))
+
 -- equal sets, whatever the order
 unfoldable pub sameSet : List ℕ → List ℕ → Bool
 sameSet a b = all (λ x. has x b) a && all (λ x. has x a) b

@@ -1,3 +1,4 @@
 -- The twelve cases.
 pub mod Cases
-pub mod Paper
+pub mod Refusals
+pub mod Says

@@ -7,8 +7,9 @@ use lib.ListN.{length, take}
 use Rattle.lists.specs.Lists.{any, repeats, sameSet}
 use Rattle.numbers.specs.Half.{halfOf}
 use Rattle.numbers.specs.Room.{room}
+use Rattle.numbers.specs.declared.Caps.{Caps}
 use Rattle.shapes.specs.Shapes.{shape, facetCount}
-use Rattle.map.specs.Cells.{Map, live, cellsOf, neighbours}
+use Rattle.map.specs.Cells.{Body, Map, live, cellsOf, neighbours}
 use Rattle.map.specs.Siblings.{sharers, sibling, cycle, border}
 use Rattle.map.specs.Stars.{holders, star, anchors}
 use Rattle.numbers.specs.Sizes.{mostAround, mostCapacity}
@@ -36,26 +37,26 @@ unfoldable pub listAnswer : List Check → List ℕ → ℕ → Answer
 listAnswer checks l places = answer (checks ++ ((12 when ltb places (length l)) ∷ [])) (length l ∷ [])
 
 -- "Format: 1, 2."
-unfoldable pub formatChecks : ℕ → ℕ → ℕ → List Check
-formatChecks words marks cells =
-    (1 when ltb mostCapacity marks || ltb mostCapacity cells) ∷ (2 when ltb words (room marks cells)) ∷ []
+unfoldable pub formatChecks : ℕ → Caps → List Check
+formatChecks words caps =
+    (1 when ltb mostCapacity (caps .marks) || ltb mostCapacity (caps .cells)) ∷ (2 when ltb words (room (caps .marks) (caps .cells))) ∷ []
 
 -- "Insert: 3, 4, 6, 7, 8, 9, 10, 11."
-unfoldable pub insertChecks : Map → ℕ → ℕ → List ℕ → List Check
-insertChecks m c t marks =
-    (3 when leb (m .cells) c)
+unfoldable pub insertChecks : Map → ℕ → Body → List Check
+insertChecks m c x =
+    (3 when leb (m .caps .cells) c)
     ∷ (4 when live m c)
-    ∷ (6 when eqb (shape t .dimension) 0)
-    ∷ (7 when not (eqb (length marks) (shape t .marks)))
-    ∷ (8 when any (leb (m .marks)) marks)
-    ∷ (9 when repeats marks)
-    ∷ (10 when any (λ k. sameSet (m .at k .marks) marks) (cellsOf m t))
-    ∷ (11 when any (λ v. leb mostAround (length (holders m v))) marks)
+    ∷ (6 when eqb (shape (x .code) .dimension) 0)
+    ∷ (7 when not (eqb (length (x .marks)) (shape (x .code) .marks)))
+    ∷ (8 when any (leb (m .caps .marks)) (x .marks))
+    ∷ (9 when repeats (x .marks))
+    ∷ (10 when any (λ k. sameSet (m .at k .marks) (x .marks)) (cellsOf m (x .code)))
+    ∷ (11 when any (λ v. leb mostAround (length (holders m v))) (x .marks))
     ∷ []
 
 -- "Remove: 3, 5.", and so every query of a cell
 unfoldable pub cellChecks : Map → ℕ → List Check
-cellChecks m c = (3 when leb (m .cells) c) ∷ (5 when not (live m c)) ∷ []
+cellChecks m c = (3 when leb (m .caps .cells) c) ∷ (5 when not (live m c)) ∷ []
 
 -- of a half-facet: 3, 5, 13
 unfoldable pub halfChecks : Map → ℕ → ℕ → List Check
@@ -63,12 +64,12 @@ halfChecks m c f = cellChecks m c ++ ((13 when leb (facetCount (m .at c .code)) 
 
 -- of a mark and a dimension: 6, 8
 unfoldable pub starChecks : Map → ℕ → ℕ → List Check
-starChecks m d v = (6 when ltb d 1 || ltb 3 d) ∷ (8 when leb (m .marks) v) ∷ []
+starChecks m d v = (6 when ltb d 1 || ltb 3 d) ∷ (8 when leb (m .caps .marks) v) ∷ []
 
 -- of a set of marks: 7, 8, 9
 unfoldable pub setChecks : Map → List ℕ → List Check
 setChecks m set =
-    (7 when ltb (length set) 1 || ltb 3 (length set)) ∷ (8 when any (leb (m .marks)) set) ∷ (9 when repeats set) ∷ []
+    (7 when ltb (length set) 1 || ltb 3 (length set)) ∷ (8 when any (leb (m .caps .marks)) set) ∷ (9 when repeats set) ∷ []
 
 -- of a type: 6
 unfoldable pub typeChecks : ℕ → List Check

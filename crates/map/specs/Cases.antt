@@ -3,11 +3,12 @@ use mathlib.Core.Bool.{Bool, true, false, not, _&&_}
 use mathlib.Core.List.{List, [], _∷_, _++_}
 use Prim.Native.Nat.{ℕ, zero, suc, _*_}
 use Rattle.lists.specs.Lists.{all, same, select}
-use Rattle.map.specs.Cells.{Map}
+use Rattle.numbers.specs.Sizes.{capacities}
+use Rattle.map.specs.Cells.{bodyOf, Map}
 use Rattle.map.specs.Siblings.{isHalf, border}
 use Rattle.map.specs.Stars.{star, anchors}
 use Rattle.map.specs.Answers.{Answer, siblingAnswer, starAnswer, anchorsAnswer}
-use Rattle.map.specs.History.{Edit, Insert, Remove, mapIn, empty, history, editAnswer}
+use Rattle.map.specs.History.{Edit, Insert, Remove, empty, history, editAnswer}
 
 pub data Question : Type 0 where
   -- of a cell and a facet; of a dimension and a mark; an edit tried
@@ -35,29 +36,29 @@ ask m (Sibling c f) = replied (siblingAnswer m c f) (siblingAnswer m c f .values
 ask m (Star d v) = replied (starAnswer m d v 128) (star m d v)
 ask m (Anchors d v) = replied (anchorsAnswer m d v 128) (anchors m d v)
 ask m (Try e) = replied (editAnswer m e) []
-ask m Borders = 0 ∷ select (λ h. isHalf m h && border m h) (8 * m .cells)
-ask m Inner = 0 ∷ select (λ h. isHalf m h && not (border m h)) (8 * m .cells)
-ask m AllStars = 0 ∷ joined (λ d. joined (star m (suc d)) (m .marks)) 3
-ask m AllAnchors = 0 ∷ joined (λ d. joined (anchors m (suc d)) (m .marks)) 3
+ask m Borders = 0 ∷ select (λ h. isHalf m h && border m h) (8 * m .caps .cells)
+ask m Inner = 0 ∷ select (λ h. isHalf m h && not (border m h)) (8 * m .caps .cells)
+ask m AllStars = 0 ∷ joined (λ d. joined (star m (suc d)) (m .caps .marks)) 3
+ask m AllAnchors = 0 ∷ joined (λ d. joined (anchors m (suc d)) (m .caps .marks)) 3
 
-pub record Row : Type 0 where
+pub record CaseRow : Type 0 where
   pub edits : List Edit
   pub question : Question
   pub answer : List ℕ
 
 infix 20 _asked_gives_
-unfoldable pub _asked_gives_ : List Edit → Question → List ℕ → Row
+unfoldable pub _asked_gives_ : List Edit → Question → List ℕ → CaseRow
 edits asked q gives l = record { edits = edits; question = q; answer = l }
 
 -- the meshes of the cases, of 5 marks and 4 cells
 unfoldable pub bar : ℕ → ℕ → ℕ → Edit
-bar c a b = Insert c 1 (a ∷ b ∷ [])
+bar c a b = Insert c (bodyOf 1 (a ∷ b ∷ []))
 
 unfoldable pub tri : ℕ → ℕ → ℕ → ℕ → Edit
-tri c a b d = Insert c 2 (a ∷ b ∷ d ∷ [])
+tri c a b d = Insert c (bodyOf 2 (a ∷ b ∷ d ∷ []))
 
 unfoldable pub tetra : ℕ → ℕ → ℕ → ℕ → ℕ → Edit
-tetra c a b d e = Insert c 4 (a ∷ b ∷ d ∷ e ∷ [])
+tetra c a b d e = Insert c (bodyOf 4 (a ∷ b ∷ d ∷ e ∷ []))
 
 unfoldable pub p2 : List Edit
 p2 = tri 0 0 1 2 ∷ []
@@ -86,7 +87,7 @@ p9 = tri 0 0 1 2 ∷ tri 1 0 1 3 ∷ tri 2 0 1 4 ∷ Remove 1 ∷ []
 unfoldable pub p12 : List Edit
 p12 = tri 0 0 1 2 ∷ tetra 1 0 1 2 3 ∷ []
 
-unfoldable pub rows : List Row
+unfoldable pub rows : List CaseRow
 rows =
     -- P1 no cells: every star and anchor list is empty
     ([] asked AllStars gives 0 ∷ [])
@@ -128,8 +129,8 @@ rows =
     ∷ []
 
 -- a row holds: the mesh of its edits answers as it says
-unfoldable pub holdsRow : Row → Bool
-holdsRow r = same (ask (mapIn (history (empty 5 4) (r .edits))) (r .question)) (r .answer)
+unfoldable pub holdsRow : CaseRow → Bool
+holdsRow r = same (ask (history (empty (capacities 5 4)) (r .edits)) (r .question)) (r .answer)
 
-unfoldable pub hold : List Row → Bool
+unfoldable pub hold : List CaseRow → Bool
 hold l = all holdsRow l

@@ -3,7 +3,7 @@ pub mod Siblings
 pub mod Groups
 pub mod Stars
 pub mod Answers
-pub mod Paper
+pub mod Says
 pub mod History
 pub mod Sound
 pub mod Cases

@@ -14,7 +14,7 @@ isHalf m h = ltb (h % 8) (length (facetsAt m (h / 8)))
 
 -- a live half-facet
 pub record Half (m : Map) (h : ℕ) : Type 0 where
-  pub below : h < 8 * m .cells
+  pub below : h < 8 * m .caps .cells
   pub facet : isHalf m h ≡ true
 
 -- the marks of a half-facet
@@ -23,7 +23,7 @@ marksOf m h = getD (facetsAt m (h / 8)) (h % 8) []
 
 -- the live half-facets with this set of marks, ascending
 unfoldable pub sharers : Map → List ℕ → List ℕ
-sharers m set = select (λ k. isHalf m k && sameSet set (marksOf m k)) (8 * m .cells)
+sharers m set = select (λ k. isHalf m k && sameSet set (marksOf m k)) (8 * m .caps .cells)
 
 -- "Siblings: live half-facets with equal sets of marks, whatever their order."
 unfoldable pub siblings : Map → ℕ → List ℕ

@@ -11,12 +11,12 @@ use Rattle.numbers.specs.Sizes.{mostAround}
 
 pub record Sound (m : Map) : Type 0 where
   -- live numbers are below the capacity, and under the others stands no cell
-  pub below : (c : ℕ) → live m c ≡ true → c < m .cells
+  pub below : (c : ℕ) → live m c ≡ true → c < m .caps .cells
   pub dead : (c : ℕ) → live m c ≡ false → m .at c ≡ noCell
   -- each live cell has a type of the table, as many marks as the type says, all below the capacity, none twice
   pub typed : (c : ℕ) → live m c ≡ true → 0 < dimensionAt m c
   pub fitting : (c : ℕ) → length (m .at c .marks) ≡ shape (m .at c .code) .marks
-  pub inside : (v c : ℕ) → holds m v c ≡ true → v < m .marks
+  pub inside : (v c : ℕ) → holds m v c ≡ true → v < m .caps .marks
   pub distinct : (c : ℕ) → repeats (m .at c .marks) ≡ false
   -- no two live cells of one type have the same set of marks
   pub alone : (a b : ℕ) → live m a ≡ true → m .at a .code ≡ m .at b .code → sameSet (m .at a .marks) (m .at b .marks) ≡ true → a ≡ b

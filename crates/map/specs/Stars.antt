@@ -10,11 +10,11 @@ use Rattle.map.specs.Groups.{groupOf}
 
 -- the cells that hold a mark, of every dimension
 unfoldable pub holders : Map → ℕ → List ℕ
-holders m v = select (holds m v) (m .cells)
+holders m v = select (holds m v) (m .caps .cells)
 
 -- "Star of a mark in dimension d: all live cells of that dimension that hold the mark, ascending, each once."
 unfoldable pub star : Map → ℕ → ℕ → List ℕ
-star m d v = select (λ c. eqb (dimensionAt m c) d && holds m v c) (m .cells)
+star m d v = select (λ c. eqb (dimensionAt m c) d && holds m v c) (m .caps .cells)
 
 -- "two cells of a star are linked if they share a facet"
 unfoldable pub linked : Map → ℕ → ℕ → ℕ → Bool
@@ -26,7 +26,7 @@ group m d v c = groupOf (linked m v) (star m d v) c
 
 -- the half-facets of the cells of g that hold v, ascending
 unfoldable pub halvesAt : Map → ℕ → List ℕ → List ℕ
-halvesAt m v g = select (λ h. has (h / 8) g && (isHalf m h && has v (marksOf m h))) (8 * m .cells)
+halvesAt m v g = select (λ h. has (h / 8) g && (isHalf m h && has v (marksOf m h))) (8 * m .caps .cells)
 
 -- "Anchor of a group at mark v: the smallest border half-facet in the group that holds v; if there is none, the smallest
 -- half-facet in it that holds v."
@@ -35,4 +35,4 @@ anchor m v g = first (first 0 (halvesAt m v g)) (keep (border m) (halvesAt m v g
 
 -- "Anchors are listed ascending, one for each group."
 unfoldable pub anchors : Map → ℕ → ℕ → List ℕ
-anchors m d v = select (λ h. has (h / 8) (star m d v) && eqb h (anchor m v (group m d v (h / 8)))) (8 * m .cells)
+anchors m d v = select (λ h. has (h / 8) (star m d v) && eqb h (anchor m v (group m d v (h / 8)))) (8 * m .caps .cells)

@@ -1,12 +1,12 @@
 // The map: what the outline's words mean, and what each call answers.
 //
-// What is here: in specs/ the definitions, over the list of live cells alone (Cells, Siblings, Groups, Stars), the
+// What is here: in specs/ the definitions, over the live cells alone (Cells, Siblings, Groups, Stars), the
 // answers with their refusals in the listed order (Answers), the history (History) and the twelve cases (Cases); in
-// src/ the refusals and the answers as enums, each case with the outline's number in specs/Paper.antt. What is proved:
+// src/ the refusals and the answers as enums, each case with the outline's number in specs/Says.antt. What is proved:
 // `number_of` gives that number; the twelve cases hold (proofs/Cases.antt); an answer of the outline is that of one enum
-// value alone (proofs/Paper.antt). What a caller should know: the laws of these definitions are in crate `laws`.
+// value alone (proofs/Says.antt). What a caller should know: the laws of these definitions are in crate `laws`.
 ghost use mathlib.Core.Path.{_≡_};
-ghost use Rattle.map.specs.Paper.{numberOf};
+ghost use Rattle.map.specs.Says.{numberOf};
 use numbers::Half;
 
 // Why a call is refused: a row of the outline's table each, in its order.
@@ -87,13 +87,4 @@ pub enum Truth {
 pub enum Built {
     Accepted,
     Refused(Refusal, u32),
-}
-
-// A walker over one sibling cycle: its place.
-pub struct Walker(pub Half);
-
-// A walker's step.
-pub enum Step {
-    Next(Walker),
-    Refused(Refusal),
 }

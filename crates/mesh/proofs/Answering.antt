@@ -13,27 +13,26 @@ use Rattle.words.specs.Words.{Only}
 use Rattle.words.proofs.Frame.{only-none}
 use Rattle.numbers.specs.declared.Caps.{Caps}
 use Rattle.store.specs.declared.Opened.the-variants.{Mesh, Nothing}
-use Rattle.store.specs.Open.{opened}
+use Rattle.store.specs.Open.{roomIn, capsIn, opened}
 use Rattle.map.specs.Cells.{Map}
 use Rattle.map.specs.Answers.{Check, Answer, answer}
-use Rattle.map.specs.History.{Edit, editAnswer, changed, editedMap}
-use Rattle.map.specs.Paper.{numberOf, given, refused, verdictSays}
+use Rattle.map.specs.History.{Edit, editAnswer, changed, edited}
+use Rattle.map.specs.Says.{numberOf, given, refused, verdictSays}
 use Rattle.map.specs.declared.Refusal.{Refusal}
 use Rattle.map.specs.declared.Refusal.the-variants.{NotMesh}
 use Rattle.map.specs.declared.Verdict.{Verdict}
 use Rattle.map.specs.declared.Verdict.the-variants.{Accepted, Refused}
 use Rattle.laws.proofs.Edits.{edited-changed}
-use Rattle.picture.specs.State.{capsOf}
 use Rattle.picture.specs.Picture.{Wf}
 use Rattle.edit.specs.Edit.{Made}
 use Rattle.checks.specs.Checked.{Checked}
-use Rattle.checks.proofs.Values.{number-some}
+use Rattle.map.proofs.Refusals.{number-some}
 use Rattle.checks.proofs.Opens.{nothing-opened, mesh-opened, wf-mesh, wf-caps}
 use Rattle.mesh.specs.Edited.{Edited}
 
 -- a refused edit leaves the map
-edited-kept : (m : Map) (e : Edit) (why : Refusal) → refused why ≡ editAnswer m e → editedMap m e ≡ m
-unfolding editedMap refused
+edited-kept : (m : Map) (e : Edit) (why : Refusal) → refused why ≡ editAnswer m e → edited m e ≡ m
+unfolding edited refused
 edited-kept m e why q = rw (← q, ne-eqb (numberOf why) 0 (λ z. omega (arith, number-some why)))
 
 module _ (w : List ℕ) (e : Edit) where
@@ -59,7 +58,7 @@ module _ (w : List ℕ) (e : Edit) where
     }
 
     pub edited-made : verdict ≡ Accepted → (w′ : List ℕ) → Made caps w w′ e → Edited w e Accepted w′
-    unfolding verdictSays given
+    unfolding verdictSays given capsIn
     edited-made v w′ made = record {
       refused = λ none. absurd (clash (mesh-opened w caps opens .0) none);
       kept = λ why z. absurd (never why z);

@@ -4,28 +4,26 @@ use mathlib.Core.Path.{_≡_}
 use mathlib.Core.Bool.{false}
 use mathlib.Core.List.{List}
 use Prim.Native.Nat.{ℕ, _<_}
-use lib.ListN.{getD}
 use Rattle.numbers.specs.Room.{room}
 use Rattle.words.specs.Words.{Only}
 use Rattle.numbers.specs.declared.Caps.{Caps}
-use Rattle.store.specs.Slots.{isMesh}
+use Rattle.store.specs.Open.{roomIn, isMesh}
 use Rattle.map.specs.Cells.{Map}
-use Rattle.map.specs.History.{Edit, Remove, editAnswer, changed, editedMap}
-use Rattle.map.specs.Paper.{verdictSays}
+use Rattle.map.specs.History.{Edit, Remove, editAnswer, changed, edited}
+use Rattle.map.specs.Says.{verdictSays}
 use Rattle.map.specs.declared.Refusal.{Refusal}
 use Rattle.map.specs.declared.Refusal.the-variants.{NotMesh}
 use Rattle.map.specs.declared.Verdict.{Verdict}
 use Rattle.map.specs.declared.Verdict.the-variants.{Refused}
-use Rattle.picture.specs.State.{capsOf}
 use Rattle.picture.specs.Picture.{Wf}
 
 pub record Edited (w : List ℕ) (e : Edit) (r : Verdict) (w′ : List ℕ) : Type 0 where
   pub refused : isMesh w ≡ false → r ≡ Refused NotMesh
   pub kept : (why : Refusal) → r ≡ Refused why → w′ ≡ w
-  pub inside : Only (λ i. i < room (getD w 1 0) (getD w 2 0)) w w′
-  pub answers : (m : Map) → Wf w m → (verdictSays r ≡ editAnswer m e) × Wf w′ (editedMap m e)
+  pub inside : Only (λ i. i < roomIn w) w w′
+  pub answers : (m : Map) → Wf w m → (verdictSays r ≡ editAnswer m e) × Wf w′ (edited m e)
 
 -- a live cell, given by its type and marks, taken out
 pub record TakenOut (caps : Caps) (w w′ : List ℕ) (c t : ℕ) (marks : List ℕ) : Type 0 where
   pub inside : Only (λ i. i < room (caps .marks) (caps .cells)) w w′
-  pub wf : (m : Map) → capsOf m ≡ caps → Wf w m → editAnswer m (Remove c) .refusal ≡ 0 → t ≡ m .at c .code → marks ≡ m .at c .marks → Wf w′ (changed m (Remove c))
+  pub wf : (m : Map) → m .caps ≡ caps → Wf w m → editAnswer m (Remove c) .refusal ≡ 0 → t ≡ m .at c .code → marks ≡ m .at c .marks → Wf w′ (changed m (Remove c))

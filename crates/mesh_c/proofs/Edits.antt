@@ -4,15 +4,16 @@ use mathlib.Core.List.{List}
 use Prim.Native.Nat.{ℕ}
 use native.Mathlib.Omega.{arith}
 use Rattle.lists.specs.Lists.{first}
+use Rattle.numbers.specs.declared.Caps.{Caps}
 use Rattle.map.specs.Answers.{Answer, answer}
 use Rattle.map.specs.History.{Edit}
-use Rattle.map.specs.Paper.{numberOf, given, refused, verdictSays, builtSays}
+use Rattle.map.specs.Says.{numberOf, given, refused, verdictSays, builtSays}
 use Rattle.map.specs.declared.Refusal.{Refusal}
 use Rattle.map.specs.declared.Verdict.{Verdict}
 use Rattle.map.specs.declared.Verdict.the-variants as Verdict′
 use Rattle.map.specs.declared.Built.{Built}
 use Rattle.map.specs.declared.Built.the-variants as Built′
-use Rattle.checks.proofs.Values.{number-some}
+use Rattle.map.proofs.Refusals.{number-some}
 use Rattle.format.specs.Formatted.{Formatted}
 use Rattle.mesh.specs.Edited.{Edited}
 use Rattle.build.specs.Builds.{Builds, formatRefusal}
@@ -38,9 +39,9 @@ module _ (v : Verdict) (r : ℕ) (e : r ≡ verdictSays v .refusal) where
       go (Verdict′.Refused why) q =
           let n : r ≡ numberOf why = e ∙ ap (λ (u : Verdict). verdictSays u .refusal) q in absurd (omega (arith, number-some why))
 
-  pub emptied : (w : List ℕ) (marks cells : ℕ) (w′ : List ℕ) → Formatted w marks cells v w′ → Emptied w marks cells r w′
+  pub emptied : (w : List ℕ) (caps : Caps) (w′ : List ℕ) → Formatted w caps v w′ → Emptied w caps r w′
   unfolding formatRefusal
-  emptied w marks cells w′ f = record {
+  emptied w caps w′ f = record {
     answers = e ∙ ap (λ (a : Answer). a .refusal) (f .says);
     kept = by-refusal (f .kept);
     inside = f .inside;
@@ -62,9 +63,9 @@ unfolding builtSays given first
 built-place Built′.Accepted x r x′ t z = t .value
 built-place (Built′.Refused why place) x r x′ t z = absurd (omega (arith, number-some why, t .number))
 
-pub raised : (w : List ℕ) (marks cells : ℕ) (records : List ℕ) (b : Built) (w′ : List ℕ) → Builds w marks cells records b w′
-    → (x r x′ : ℕ) → Told (builtSays b) x r x′ → Raised w marks cells records x r w′ x′
-raised w marks cells records b w′ f x r x′ t = record {
+pub raised : (w : List ℕ) (caps : Caps) (records : List ℕ) (b : Built) (w′ : List ℕ) → Builds w caps records b w′
+    → (x r x′ : ℕ) → Told (builtSays b) x r x′ → Raised w caps records x r w′ x′
+raised w caps records b w′ f x r x′ t = record {
   answers = record {
     number = t .number ∙ ap (λ (a : Answer). a .refusal) (f .says);
     value = t .value ∙ ap (λ (a : Answer). first x (a .values)) (f .says);

@@ -1,48 +1,78 @@
 -- Where the marks of a cell stand.
-use mathlib.Core.Path.{_≡_, refl, sym, ap, _∙_}
+use mathlib.Core.Path.{_≡_, refl, sym, ap, ap₂, _∙_}
 use mathlib.Core.Bool.{Bool, true, false, cond, not}
 use mathlib.Core.List.{List, [], _∷_}
-use Prim.Native.Nat.{ℕ, _+_, _%_, _<_, _≤_}
+use Prim.Native.Nat.{ℕ, _+_, _<_, _≤_}
+use native.Mathlib.Decide.{decLt}
 use native.Mathlib.Omega.{arith}
 use borrow.Author.Tests.{leb-false}
 use lib.Dec.{leb}
 use lib.ListN.{getD, length}
 use Rattle.words.specs.Words.{partOf}
 use Rattle.shapes.specs.Shapes.{shape}
-use Rattle.shapes.proofs.Today.{four-marks}
-use Rattle.store.specs.Layout.{cellAt, room}
-use Rattle.store.specs.Slots.{isMesh}
+use Rattle.shapes.proofs.Facts.{facts}
+use Rattle.numbers.specs.declared.Caps.{Caps}
+use Rattle.store.specs.declared.Opened.the-variants.{Mesh, Nothing}
+use Rattle.store.specs.Layout.{nearAt, farAt, room}
+use Rattle.store.specs.Slots.{marksAt}
+use Rattle.store.proofs.Writes.{marks-near, marks-far}
+use Rattle.store.specs.Open.{isMesh, opened}
 use Rattle.map.specs.Cells.{Map, live}
 use Rattle.map.specs.Answers.{Answer, _when_, answer, cellChecks, typeAnswer}
-use Rattle.map.specs.Paper.{numberOf, given, refused, valueSays}
+use Rattle.map.specs.Says.{numberOf, given, refused, valueSays}
 use Rattle.map.specs.declared.Refusal.{Refusal}
 use Rattle.map.specs.declared.Refusal.the-variants.{NotMesh}
 use Rattle.map.specs.declared.Value.{Value}
 use Rattle.map.specs.declared.Value.the-variants as Value′
-use Rattle.picture.specs.State.{capsOf, stateOf}
+use Rattle.picture.specs.State.{stateOf}
 use Rattle.picture.specs.Picture.{Wf}
-use Rattle.sibling.proofs.Part.{marks-read}
-use Rattle.checks.proofs.Values.{number-some}
-use Rattle.checks.proofs.Opens.{head-marks}
+use Rattle.picture.proofs.Record.{marks-read}
+use Rattle.map.proofs.Refusals.{number-some}
+use Rattle.lists.proofs.Bools.{clash}
+use Rattle.checks.proofs.Opens.{nothing-opened, mesh-opened, wf-mesh, wf-caps}
 use Rattle.ask.specs.Asked.{Asked}
 use Rattle.ask.specs.Refusals.{noValue}
-use Rattle.mesh_c.specs.Answered.{MarksAt}
+use Rattle.mesh_c.specs.Answered.{MarksTold}
+
+-- the marks of a cell lie in the room, and a room has fewer words than a word can count
+marks-fit : (caps : Caps) (c n : ℕ) → c < caps .cells → n ≤ 8 → marksAt caps c n + n ≤ room (caps .marks) (caps .cells)
+unfolding room nearAt farAt
+marks-fit caps c n h l = go (decLt 4 n)
+  where
+    go : Dec (4 < n) → marksAt caps c n + n ≤ room (caps .marks) (caps .cells)
+    go (yes m) = rw (marks-far caps c n m) (omega arith)
+    go (no f) = rw (marks-near caps c n (omega arith)) (omega arith)
+
+room-small : (caps : Caps) → caps .marks ≤ 65535 → caps .cells ≤ 65535 → room (caps .marks) (caps .cells) < 4294967296
+unfolding room
+room-small caps a b = omega arith
 
 -- a given type is that of a live cell
 module _ (m : Map) (c t : ℕ) where
-  typed : given (t ∷ []) ≡ typeAnswer m c → (c < m .cells) × (t ≡ m .at c .code)
+  typed : given (t ∷ []) ≡ typeAnswer m c → (c < m .caps .cells) × (t ≡ m .at c .code)
   unfolding typeAnswer cellChecks _when_ answer given
-  typed e = go (leb (m .cells) c) refl (not (live m c)) e
+  typed e = go (leb (m .caps .cells) c) refl (not (live m c)) e
     where
-      go : (b : Bool) → leb (m .cells) c ≡ b → (d : Bool)
+      go : (b : Bool) → leb (m .caps .cells) c ≡ b → (d : Bool)
           → given (t ∷ []) ≡ cond b (record { refusal = 3; values = [] }) (cond d (record { refusal = 5; values = [] }) (given (m .at c .code ∷ [])))
-          → (c < m .cells) × (t ≡ m .at c .code)
+          → (c < m .caps .cells) × (t ≡ m .at c .code)
       go true l d e = absurd (omega (arith, ap (λ (a : Answer). a .refusal) e))
       go false l true e = absurd (omega (arith, ap (λ (a : Answer). a .refusal) e))
-      go false l false e = (leb-false (m .cells) c l, ap (λ (a : Answer). getD (a .values) 0 0) e)
+      go false l false e = (leb-false (m .caps .cells) c l, ap (λ (a : Answer). getD (a .values) 0 0) e)
+
+-- memory that is no mesh
+pub marks-none : (w : List ℕ) → Nothing ≡ opened w → (c at n r : ℕ) → r ≡ numberOf NotMesh → MarksTold w c at n r at n
+marks-none w none c at n r e = record {
+  refused = λ _. e;
+  kept = λ _. (refl, refl);
+  inside = λ z. absurd (omega arith);
+  answers = λ m wf. absurd (clash (wf-mesh w m wf) (nothing-opened w none));
+  place = λ m wf z. absurd (omega arith);
+  marks = λ m wf z. absurd (omega arith);
+}
 
 module _ (w : List ℕ) (c : ℕ) (a : Value) (asked : Asked valueSays noValue w (λ m. typeAnswer m c) a) (at n : ℕ) where
-  pub marks-refused : (why : Refusal) → a ≡ Value′.Refused why → (r : ℕ) → r ≡ numberOf why → MarksAt w c at n r at n
+  pub marks-refused : (why : Refusal) → a ≡ Value′.Refused why → (r : ℕ) → r ≡ numberOf why → MarksTold w c at n r at n
   unfolding valueSays refused
   marks-refused why v r e = record {
     refused = λ none. e ∙ ap (λ (u : Value). valueSays u .refusal) (sym v ∙ asked .refused none);
@@ -56,57 +86,58 @@ module _ (w : List ℕ) (c : ℕ) (a : Value) (asked : Asked valueSays noValue w
       some : r ≡ 0 → ⊥
       some z = omega (arith, number-some why)
 
-  module _ (t : ℕ) (v : a ≡ Value′.Is t) (marks k : ℕ) (p : marks ≡ getD w 1 0) (q : k ≡ shape t .marks) where
+  module _ (caps : Caps) (opens : Mesh caps ≡ opened w) (t : ℕ) (v : a ≡ Value′.Is t) (k p : ℕ) (q : k ≡ shape t .marks) (at-place : p ≡ marksAt caps c k) where
     type-given : (m : Map) → Wf w m → given (t ∷ []) ≡ typeAnswer m c
     unfolding valueSays
     type-given m wf = ap valueSays (sym v) ∙ asked .answers m wf
 
     mesh : isMesh w ≡ false → ⊥
-    mesh none = let e : Value′.Is t ≡ noValue = sym v ∙ asked .refused none in let z : _≡_ {A = ℕ} 0 1 = cc in omega arith
+    mesh none = clash (mesh-opened w caps opens .0) none
 
     module _ (m : Map) (wf : Wf w m) where
-      below : c < m .cells
+      below : c < m .caps .cells
       below = typed m c t (type-given m wf) .0
 
       size : k ≡ length (m .at c .marks)
       size = q ∙ (ap (λ (u : ℕ). shape u .marks) (typed m c t (type-given m wf) .1) ∙ sym (wf .sound .fitting c))
 
-      four : length (m .at c .marks) ≤ 4
-      four = omega (arith, wf .sound .fitting c, four-marks (m .at c .code))
+      few : length (m .at c .marks) ≤ 8
+      few = omega (arith, wf .sound .fitting c, facts (m .at c .code) .marks)
 
-      here : marks ≡ m .marks
-      here = p ∙ head-marks w m wf
+      here : p ≡ marksAt (m .caps) c (length (m .at c .marks))
+      here = at-place ∙ ap₂ (λ (x : Caps) (n : ℕ). marksAt x c n) (sym (wf-caps w m wf caps opens)) size
 
-      fits : cellAt marks c + 1 + k ≤ length w
-      unfolding capsOf room cellAt
-      fits = omega (arith, wf .picture .fits, below, size, four, here)
+      fits : (p + k ≤ length w) × (p < 4294967296)
+      fits =
+          let r = marks-fit (m .caps) c (length (m .at c .marks)) below few in
+          (omega (arith, here, size, r, wf .picture .fits), omega (arith, here, r, room-small (m .caps) (wf .picture .marks) (wf .picture .cells)))
 
-      uncut : (cellAt marks c + 1) % 4294967296 ≡ cellAt marks c + 1
-      unfolding capsOf cellAt
-      uncut = omega (arith, wf .picture .marks, wf .picture .cells, below, here)
-
-      part-marks : partOf w (cellAt (m .marks) c + 1) (length (m .at c .marks)) ≡ m .at c .marks
-      unfolding capsOf stateOf
-      part-marks = marks-read w (capsOf m) (stateOf m) (wf .picture) c below four
+      part-marks : partOf w (marksAt (m .caps) c (length (m .at c .marks))) (length (m .at c .marks)) ≡ m .at c .marks
+      unfolding stateOf
+      part-marks = marks-read w (m .caps) (stateOf m) (wf .picture) c below few
 
     -- memory too short for them is that of no map
-    pub marks-outside : length w < cellAt marks c + 1 + k → (r : ℕ) → r ≡ numberOf NotMesh → MarksAt w c at n r at n
+    pub marks-outside : length w < p + k → (r : ℕ) → r ≡ numberOf NotMesh → MarksTold w c at n r at n
     marks-outside short r e = record {
       refused = λ _. e;
       kept = λ _. (refl, refl);
       inside = λ z. absurd (omega arith);
-      answers = λ m wf. absurd (omega (arith, fits m wf));
-      place = λ m wf z. absurd (omega (arith, fits m wf));
-      marks = λ m wf z. absurd (omega (arith, fits m wf));
+      answers = λ m wf. absurd (omega (arith, fits m wf .0));
+      place = λ m wf z. absurd (omega (arith, fits m wf .0));
+      marks = λ m wf z. absurd (omega (arith, fits m wf .0));
     }
 
-    pub marks-given : cellAt marks c + 1 + k ≤ length w → MarksAt w c at n 0 ((cellAt marks c + 1) % 4294967296) k
+    -- a place below 2^32 is told as it is
+    pub marks-given : p + k ≤ length w → (at′ n′ : ℕ) → at′ ≤ p → (p < 4294967296 → at′ ≡ p) → n′ ≡ k → MarksTold w c at n 0 at′ n′
     unfolding given
-    marks-given enough = record {
+    marks-given enough at′ n′ low uncut same = record {
       refused = λ none. absurd (mesh none);
       kept = λ some. absurd (some refl);
       inside = λ _. omega arith;
       answers = λ m wf. ap (λ (b : Answer). b .refusal) (type-given m wf);
-      place = λ m wf _. uncut m wf ∙ ap (λ (u : ℕ). cellAt u c + 1) (here m wf);
-      marks = λ m wf _. (size m wf, rw (uncut m wf, here m wf, size m wf) (part-marks m wf));
+      place = λ m wf _. told m wf;
+      marks = λ m wf _. (same ∙ size m wf, rw (told m wf, same ∙ size m wf) (part-marks m wf));
     }
+      where
+        told : (m : Map) → Wf w m → at′ ≡ marksAt (m .caps) c (length (m .at c .marks))
+        told m wf = uncut (fits m wf .1) ∙ here m wf

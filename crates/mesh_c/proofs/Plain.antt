@@ -2,7 +2,7 @@
 use mathlib.Core.Path.{_≡_, refl}
 use mathlib.Core.List.{[]}
 use Rattle.map.specs.Answers.{Answer}
-use Rattle.map.specs.Paper.{given, refused, valueSays, halfSays, truthSays, foundSays}
+use Rattle.map.specs.Says.{given, refused, valueSays, halfSays, truthSays, foundSays}
 use Rattle.map.specs.declared.Value.the-variants as Value
 use Rattle.map.specs.declared.HalfAt.the-variants as HalfAt
 use Rattle.map.specs.declared.Truth.the-variants as Truth

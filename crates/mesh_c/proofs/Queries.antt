@@ -10,11 +10,11 @@ use Rattle.lists.specs.Lists.{first}
 use Rattle.words.specs.Words.{Only}
 use Rattle.map.specs.Cells.{Map}
 use Rattle.map.specs.Answers.{Check, Answer, listAnswer}
-use Rattle.map.specs.Paper.{given, refused, valueSays, foundSays}
+use Rattle.map.specs.Says.{given, refused, valueSays, foundSays}
 use Rattle.map.specs.declared.Value.{Value}
 use Rattle.map.specs.declared.Value.the-variants as Value′
 use Rattle.map.specs.declared.Found.{Found}
-use Rattle.checks.proofs.Values.{number-some}
+use Rattle.map.proofs.Refusals.{number-some}
 use Rattle.ask.specs.Asked.{Asked}
 use Rattle.ask.specs.Refusals.{noValue, noFound}
 use Rattle.listing.specs.Listing.{Listing}

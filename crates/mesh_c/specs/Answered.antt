@@ -6,8 +6,8 @@ use mathlib.Core.List.{List}
 use Prim.Native.Nat.{ℕ, _+_, _<_, _≤_}
 use lib.ListN.{length}
 use Rattle.words.specs.Words.{Only, partOf}
-use Rattle.store.specs.Layout.{cellAt}
-use Rattle.store.specs.Slots.{isMesh}
+use Rattle.store.specs.Slots.{marksAt}
+use Rattle.store.specs.Open.{isMesh}
 use Rattle.map.specs.Cells.{Map}
 use Rattle.map.specs.Answers.{Check, Answer, listAnswer, typeAnswer}
 use Rattle.picture.specs.Picture.{Wf}
@@ -35,13 +35,13 @@ pub record Listed (w : List ℕ) (checks : Map → List Check) (list : Map → L
   pub places : (m : Map) → Wf w m → o′ ≡ listed (listAnswer (checks m) (list m) (length o)) (list m) o
 
 -- where in memory the marks of a cell stand, and how many; refused as the type query is
-pub record MarksAt (w : List ℕ) (c at n r at′ n′ : ℕ) : Type 0 where
+pub record MarksTold (w : List ℕ) (c at n r at′ n′ : ℕ) : Type 0 where
   pub refused : isMesh w ≡ false → r ≡ 14
   pub kept : (r ≡ 0 → ⊥) → (at′ ≡ at) × (n′ ≡ n)
   -- they lie in memory, whatever it holds
   pub inside : r ≡ 0 → at′ + n′ ≤ length w
   pub answers : (m : Map) → Wf w m → r ≡ typeAnswer m c .refusal
-  pub place : (m : Map) → Wf w m → r ≡ 0 → at′ ≡ cellAt (m .marks) c + 1
+  pub place : (m : Map) → Wf w m → r ≡ 0 → at′ ≡ marksAt (m .caps) c (length (m .at c .marks))
   pub marks : (m : Map) → Wf w m → r ≡ 0 → (n′ ≡ length (m .at c .marks)) × (partOf w at′ n′ ≡ m .at c .marks)
 
 -- the whole check: 1 exactly if memory is well-formed, for some map, and else 0

@@ -4,34 +4,35 @@ use mathlib.Core.Path.{_≡_}
 use mathlib.Core.Bool.{false}
 use mathlib.Core.List.{List}
 use Prim.Native.Nat.{ℕ, _<_}
-use lib.ListN.{getD, length}
+use lib.ListN.{length}
 use Rattle.numbers.specs.Room.{room}
+use Rattle.numbers.specs.declared.Caps.{Caps}
 use Rattle.words.specs.Words.{Only}
-use Rattle.store.specs.Slots.{isMesh}
+use Rattle.store.specs.Open.{roomIn, isMesh}
 use Rattle.map.specs.Cells.{Map}
-use Rattle.map.specs.History.{Edit, editAnswer, editedMap, mapIn, empty, build}
+use Rattle.map.specs.History.{Edit, editAnswer, edited, empty, build}
 use Rattle.picture.specs.Picture.{Wf}
 use Rattle.build.specs.Builds.{formatRefusal, buildAnswer}
 use Rattle.tell.specs.Told.{Told}
 
 -- a format
-pub record Emptied (w : List ℕ) (marks cells r : ℕ) (w′ : List ℕ) : Type 0 where
-  pub answers : r ≡ formatRefusal (length w) marks cells
+pub record Emptied (w : List ℕ) (caps : Caps) (r : ℕ) (w′ : List ℕ) : Type 0 where
+  pub answers : r ≡ formatRefusal (length w) caps
   pub kept : (r ≡ 0 → ⊥) → w′ ≡ w
-  pub inside : Only (λ i. i < room marks cells) w w′
-  pub wf : r ≡ 0 → Wf w′ (mapIn (empty marks cells))
+  pub inside : Only (λ i. i < room (caps .marks) (caps .cells)) w w′
+  pub wf : r ≡ 0 → Wf w′ (empty caps)
 
 -- a build: the place of the refused record is written on a refusal alone
-pub record Raised (w : List ℕ) (marks cells : ℕ) (records : List ℕ) (x r : ℕ) (w′ : List ℕ) (x′ : ℕ) : Type 0 where
-  pub answers : Told (buildAnswer (length w) marks cells records) x r x′
+pub record Raised (w : List ℕ) (caps : Caps) (records : List ℕ) (x r : ℕ) (w′ : List ℕ) (x′ : ℕ) : Type 0 where
+  pub answers : Told (buildAnswer (length w) caps records) x r x′
   pub place : r ≡ 0 → x′ ≡ x
-  pub kept : (formatRefusal (length w) marks cells ≡ 0 → ⊥) → w′ ≡ w
-  pub inside : Only (λ i. i < room marks cells) w w′
-  pub wf : formatRefusal (length w) marks cells ≡ 0 → Wf w′ (mapIn (build marks cells records .mesh))
+  pub kept : (formatRefusal (length w) caps ≡ 0 → ⊥) → w′ ≡ w
+  pub inside : Only (λ i. i < room (caps .marks) (caps .cells)) w w′
+  pub wf : formatRefusal (length w) caps ≡ 0 → Wf w′ (build caps records .map)
 
 -- an insert or a removal
 pub record Changed (w : List ℕ) (e : Edit) (r : ℕ) (w′ : List ℕ) : Type 0 where
   pub refused : isMesh w ≡ false → r ≡ 14
   pub kept : (r ≡ 0 → ⊥) → w′ ≡ w
-  pub inside : Only (λ i. i < room (getD w 1 0) (getD w 2 0)) w w′
-  pub answers : (m : Map) → Wf w m → (r ≡ editAnswer m e .refusal) × Wf w′ (editedMap m e)
+  pub inside : Only (λ i. i < roomIn w) w w′
+  pub answers : (m : Map) → Wf w m → (r ≡ editAnswer m e .refusal) × Wf w′ (edited m e)

@@ -5,12 +5,13 @@
 // leaves what was lent as it was, on any memory (specs/Answered.antt, specs/Changed.antt). What a caller should know: a list is a pointer
 // and a count of 32-bit words, aligned to 4 bytes; no two lent places may overlap.
 ghost use Rattle.numbers.specs.Half.{halfOf};
+ghost use Rattle.numbers.specs.Sizes.{capacities};
 ghost use Rattle.map.specs.Answers.{cellChecks, halfChecks, starChecks, typeChecks, typeAnswer, siblingAnswer, borderAnswer, firstAnchorAnswer, lookupAnswer, countAnswer};
-ghost use Rattle.map.specs.Cells.{cellsOf, neighbours};
+ghost use Rattle.map.specs.Cells.{bodyOf, cellsOf, neighbours};
 ghost use Rattle.map.specs.Siblings.{cycle};
 ghost use Rattle.map.specs.Stars.{star, anchors};
 ghost use Rattle.map.specs.History.{Insert, Remove};
-ghost use Rattle.mesh_c.specs.Answered.{Answered, Sought, Listed, MarksAt, Judged};
+ghost use Rattle.mesh_c.specs.Answered.{Answered, Sought, Listed, MarksTold, Judged};
 ghost use Rattle.mesh_c.specs.Changed.{Emptied, Raised, Changed};
 use ask::border;
 use ask::count_of_type;
@@ -32,6 +33,9 @@ use mesh::remove;
 use numbers::Cell;
 use numbers::Mark;
 use shapes::mark_count;
+use store::Opened;
+use store::marks_place;
+use store::open;
 use tell::byte_of;
 use tell::tell_built;
 use tell::tell_found;
@@ -40,12 +44,11 @@ use tell::tell_truth;
 use tell::tell_value;
 use tell::tell_verdict;
 use whole::whole;
-use words::word;
 
 // A mesh of these capacities with no live cell.
 #[no_mangle]
 pub extern "C" fn mk_format(mesh: &mut [u32], marks: u32, cells: u32) -> u8
-    ensures { λ r. ⌜ Emptied (now (mesh .entry)) marks cells r (now (mesh .exit)) ⌝ }
+    ensures { λ r. ⌜ Emptied (now (mesh .entry)) (capacities marks cells) r (now (mesh .exit)) ⌝ }
 {
     tell_verdict(format(mesh, marks, cells))
 }
@@ -59,7 +62,7 @@ pub extern "C" fn mk_build(
     records: &[u32],
     place: &mut u32,
 ) -> u8
-    ensures { λ r. ⌜ Raised (now (mesh .entry)) marks cells (now (records .entry)) (now (place .entry)) r (now (mesh .exit)) (now (place .exit)) ⌝ }
+    ensures { λ r. ⌜ Raised (now (mesh .entry)) (capacities marks cells) (now (records .entry)) (now (place .entry)) r (now (mesh .exit)) (now (place .exit)) ⌝ }
 {
     tell_built(build(mesh, marks, cells, records), place)
 }
@@ -67,12 +70,12 @@ pub extern "C" fn mk_build(
 // A cell of the caller's number, of a type, on marks.
 #[no_mangle]
 pub extern "C" fn mk_insert(mesh: &mut [u32], cell: u32, code: u32, marks: &[u32]) -> u8
-    ensures { λ r. ⌜ Changed (now (mesh .entry)) (Insert cell code (now (marks .entry))) r (now (mesh .exit)) ⌝ }
+    ensures { λ r. ⌜ Changed (now (mesh .entry)) (Insert cell (bodyOf code (now (marks .entry)))) r (now (mesh .exit)) ⌝ }
 {
     tell_verdict(insert(mesh, Cell(cell), code, marks))
 }
 
-// The cell of that number taken out.
+// A cell taken out.
 #[no_mangle]
 pub extern "C" fn mk_remove(mesh: &mut [u32], cell: u32) -> u8
     ensures { λ r. ⌜ Changed (now (mesh .entry)) (Remove cell) r (now (mesh .exit)) ⌝ }
@@ -91,15 +94,20 @@ pub extern "C" fn mk_type(mesh: &[u32], cell: u32, code: &mut u32) -> u8
 // Where in memory the marks of a cell stand, and how many there are.
 #[no_mangle]
 pub extern "C" fn mk_marks(mesh: &[u32], cell: u32, at: &mut u32, count: &mut u32) -> u8
-    ensures { λ r. ⌜ MarksAt (now (mesh .entry)) cell (now (at .entry)) (now (count .entry)) r (now (at .exit)) (now (count .exit)) ⌝ }
+    ensures { λ r. ⌜ MarksTold (now (mesh .entry)) cell (now (at .entry)) (now (count .entry)) r (now (at .exit)) (now (count .exit)) ⌝ }
 {
+    let Opened::Mesh(caps) = open(mesh) else {
+        return byte_of(Refusal::NotMesh);
+    };
     match type_of(mesh, Cell(cell)) {
         Value::Refused(why) => byte_of(why),
         Value::Is(code) => {
-            let marks = word(mesh, 1);
             let n = mark_count(code);
-            let place = 16 + 8 * (marks as usize) + 16 * (cell as usize) + 1;
-            if mesh.len() < place + n as usize {
+            let place = marks_place(caps, Cell(cell), n as usize);
+            if mesh.len() < n as usize {
+                return byte_of(Refusal::NotMesh);
+            }
+            if mesh.len() - (n as usize) < place {
                 return byte_of(Refusal::NotMesh);
             }
             *at = (place % 4294967296) as u32;

@@ -1,9 +1,14 @@
 -- The outline's sizes.
 use Prim.Native.Nat.{ℕ}
+use Rattle.numbers.specs.declared.Caps.{Caps}
 
 -- "Capacities: 0 to 65,535 marks and 0 to 65,535 cells."
 abbrev pub mostCapacity : ℕ
 mostCapacity = 65535
+
+-- the capacities of so many marks and so many cells
+abbrev pub capacities : ℕ → ℕ → Caps
+capacities marks cells = record { marks = marks; cells = cells }
 
 -- "A mark may stand in at most 128 live cells, all dimensions together."
 abbrev pub mostAround : ℕ

@@ -6,10 +6,11 @@ use Prim.Native.Nat.{ℕ, zero, suc, _≤_}
 use native.Mathlib.Omega.{arith}
 use lib.ListN.{getD}
 use Rattle.numbers.specs.declared.Caps.{Caps}
-use Rattle.store.specs.Layout.{Slot, Head, Mark, Cell, Cold}
+use Rattle.store.specs.Fields.{First, Held, Anchor, MarkRest, Code, Near, Sib, Link, Far, CellRest}
+use Rattle.store.specs.Slots.{Slot, InHead, InMark, InCell, Within}
 use Rattle.map.specs.Cells.{Body}
 use Rattle.picture.specs.State.{State}
-use Rattle.picture.specs.Picture.{chainOf, link, corner, linkWord, headWords, markWords, cellWords, wordOf, Pic}
+use Rattle.picture.specs.Picture.{chainOf, ahead, link, corner, linkWord, headWord, markWord, cellWord, wordOf, Pic}
 use Rattle.picture.proofs.Put.{pic-same}
 
 -- a state with other first anchors
@@ -17,23 +18,22 @@ abbrev pub withAncs : State → (ℕ → ℕ → ℕ) → State
 withAncs s anc = record { at = s .at; chain = s .chain; sib = s .sib; anc = anc; count = s .count }
 
 module _ (caps : Caps) (s : State) (anc : ℕ → ℕ → ℕ) (same : (d v : ℕ) → 1 ≤ d → d ≤ 3 → s .anc d v ≡ anc d v) where
-  ancs-words : (z : Slot) → wordOf caps s z ≡ wordOf caps (withAncs s anc) z
-  unfolding wordOf headWords markWords cellWords link chainOf corner linkWord
-  ancs-words (Head k) = refl
-  ancs-words (Cell c k) = refl
-  ancs-words (Cold c k) = refl
-  ancs-words (Mark v k) = at k
-    where
-      at : (k : ℕ) → getD (markWords caps s v) k 0 ≡ getD (markWords caps (withAncs s anc) v) k 0
-      at zero = refl
-      at (suc zero) = refl
-      at (suc (suc zero)) = same 1 v (omega arith) (omega arith)
-      at (suc (suc (suc zero))) = same 2 v (omega arith) (omega arith)
-      at (suc (suc (suc (suc zero)))) = same 3 v (omega arith) (omega arith)
-      at (suc (suc (suc (suc (suc k))))) = refl
+  ancs-words : (z : Slot) → Within (caps .marks) (caps .cells) z → wordOf caps s z ≡ wordOf caps (withAncs s anc) z
+  unfolding wordOf headWord markWord cellWord link ahead chainOf corner linkWord
+  ancs-words (InHead f) h = refl
+  ancs-words (InMark v First) h = refl
+  ancs-words (InMark v Held) h = refl
+  ancs-words (InMark v (Anchor d)) h = same d v (h .1 .0) (h .1 .1)
+  ancs-words (InMark v (MarkRest k)) h = refl
+  ancs-words (InCell c Code) h = refl
+  ancs-words (InCell c (Near k)) h = refl
+  ancs-words (InCell c (Sib f)) h = refl
+  ancs-words (InCell c (Link k)) h = refl
+  ancs-words (InCell c (Far k)) h = refl
+  ancs-words (InCell c (CellRest p)) h = refl
 
   pub pic-ancs : (w : List ℕ) → Pic w caps s → Pic w caps (withAncs s anc)
-  pic-ancs w p = pic-same w caps s (withAncs s anc) (λ z h. ancs-words z) p
+  pic-ancs w p = pic-same w caps s (withAncs s anc) ancs-words p
 
 -- a state is its fields
 pub state-same : (s s′ : State) → s .at ≡ s′ .at → s .chain ≡ s′ .chain → s .sib ≡ s′ .sib → s .anc ≡ s′ .anc → s .count ≡ s′ .count → s ≡ s′

@@ -1,28 +1,32 @@
--- A cell that stands in no chain, written word by word.
-use mathlib.Core.Path.{_≡_, refl, sym, ap, ap₂, _∙_, fun-ext, subst}
+-- A cell that stands in no chain, written: which words differ, and the picture of the state with its new body.
+use mathlib.Core.Path.{_≡_, refl, sym, ap, _∙_, subst}
 use mathlib.Core.Bool.{Bool, true, false, cond, _&&_}
 use mathlib.Core.List.{List, [], _∷_}
+use mathlib.Core.Logic.{⊎-elim}
 use Prim.Native.Nat.{ℕ, zero, suc, _+_, _*_, _<_, _≤_}
-use native.Mathlib.Numerals.{add-one}
 use native.Mathlib.Decide.{decLt, ℕ-discrete}
 use native.Mathlib.Omega.{arith}
 use borrow.Author.Tests.{eq-eqb, ne-eqb, lt-ltb, le-ltb}
-use lib.Dec.{eqb, ltb}
+use lib.Dec.{eqb, leb, ltb}
 use lib.ListN.{getD, set, length, List·getD-eq-default}
+use Rattle.lists.specs.Lists.{has, keep, select, place}
+use Rattle.lists.proofs.Bools.{clash, not-true-false, or-left}
+use Rattle.lists.proofs.Keep.{keep-out}
+use Rattle.lists.proofs.Select.{select-out}
 use Rattle.words.specs.Words.{Only}
-use Rattle.words.proofs.Frame.{only-none, only-then}
+use Rattle.words.proofs.Frame.{only-then, only-none}
 use Rattle.numbers.specs.declared.Caps.{Caps}
-use Rattle.store.specs.Layout.{cellAt, Slot, Head, Mark, Cell, Cold, address, Within}
-use Rattle.store.specs.Slots.{setCell}
-use Rattle.store.proofs.Writes.{cell-in}
-use Rattle.map.specs.Cells.{Body}
-use Rattle.picture.specs.State.{State}
-use Rattle.picture.specs.Picture.{chainOf, link, corner, linkWord, headWords, markWords, cellWords, wordOf, Pic}
+use Rattle.store.specs.Layout.{room}
+use Rattle.store.specs.Fields.{InNear, CellField, Code, Near, Sib, Link, Far, CellRest, MarkField, First, Held, Anchor, MarkRest}
+use Rattle.store.specs.Slots.{Slot, InHead, InMark, InCell, Within, cellOpen, read, written}
+use Rattle.store.proofs.Writes.{write-only}
+use Rattle.map.specs.Cells.{Body, bodyOf}
+use Rattle.picture.specs.State.{State, next}
+use Rattle.picture.specs.Picture.{chainOf, ahead, linkTo, link, corner, linkWord, headWord, markWord, cellWord, wordOf, Pic}
 use Rattle.picture.specs.Changes.{withBody}
 use Rattle.picture.specs.Step.{Step}
-use Rattle.picture.specs.Writes.{MayWrite}
-use Rattle.picture.proofs.Put.{pic-put, pic-same}
-use Rattle.picture.proofs.Writers.{Inside, cell-only}
+use Rattle.picture.specs.Writes.{MayWrite, Fills, Fars}
+use Rattle.picture.proofs.Fills.{written-here, written-other}
 
 -- the body that was put
 pub body-here : (s : State) (c : ℕ) (b : Body) → withBody s c b .at c ≡ b
@@ -33,206 +37,202 @@ pub body-other : (s : State) (c : ℕ) (b : Body) (k : ℕ) → (k ≡ c → ⊥
 unfolding withBody
 body-other s c b k ne = rw (ne-eqb c k (λ e. ne (sym e)))
 
+-- a link leads to a cell of the chain
+next-has : (l : List ℕ) (d : ℕ) → next l ≡ suc d → has d l ≡ true
+unfolding next has
+next-has [] d e = absurd (omega (arith, e))
+next-has (x ∷ xs) d e = let same : x ≡ d = omega (arith, e) in or-left (eqb x d) (has d xs) (eq-eqb x d same)
+
+pub ahead-there : (caps : Caps) (s : State) (v lo d : ℕ) → ahead caps s v lo ≡ suc d → (d < caps .cells) × (s .chain v d ≡ true)
+unfolding ahead chainOf
+ahead-there caps s v lo d e =
+    select-out (s .chain v) (caps .cells) d (keep-out (leb lo) (select (s .chain v) (caps .cells)) d (next-has _ d e) .1)
+
 and-none : (p q : Bool) (x : ℕ) → q ≡ false → cond (p && q) x 0 ≡ 0
 and-none true q x e = rw e
 and-none false q x e = refl
 
--- the corners of a body as they lie in the record
-cornersOf : State → ℕ → Body → List ℕ
-cornersOf s c b =
-    b .code
-    ∷ getD (b .marks) 0 0 ∷ getD (b .marks) 1 0 ∷ getD (b .marks) 2 0 ∷ getD (b .marks) 3 0
-    ∷ s .sib (8 * c) ∷ s .sib (8 * c + 1) ∷ s .sib (8 * c + 2) ∷ s .sib (8 * c + 3)
-    ∷ 0 ∷ 0 ∷ 0 ∷ 0
-    ∷ []
-
 module _ (caps : Caps) (s : State) (c : ℕ) (loose : (v : ℕ) → s .chain v c ≡ false) (b : Body) where
-  no-link : (k : ℕ) → linkWord caps (withBody s c b) c k ≡ 0
-  unfolding linkWord withBody corner
-  no-link k =
-      and-none (ltb k (length (withBody s c b .at c .marks))) (s .chain (getD (withBody s c b .at c .marks) k 0) c)
-      (link caps (withBody s c b) (getD (withBody s c b .at c .marks) k 0) (suc c))
-      (loose (getD (withBody s c b .at c .marks) k 0))
-
-  loose-words : cellWords caps (withBody s c b) c ≡ cornersOf s c b
-  unfolding cellWords cornersOf corner withBody
-  loose-words = rw (no-link 0, no-link 1, no-link 2, no-link 3, body-here s c b) refl
-
-  -- the other cells keep their words
-  other-words : (e : ℕ) → (e ≡ c → ⊥) → cellWords caps (withBody s c b) e ≡ cellWords caps s e
-  unfolding withBody cellWords corner linkWord link chainOf
-  other-words e ne = rw (ne-eqb c e (λ q. ne (sym q)))
-
-module _ (caps : Caps) (s : State) (c : ℕ) where
-  -- head and marks do not depend on a body
-  head-same : (b b′ : Body) → headWords caps (withBody s c b′) ≡ headWords caps (withBody s c b)
-  unfolding withBody headWords
-  head-same b b′ = refl
-
-  mark-same : (b b′ : Body) (v : ℕ) → markWords caps (withBody s c b′) v ≡ markWords caps (withBody s c b) v
-  unfolding withBody markWords link chainOf
-  mark-same b b′ v = refl
-
-module _ (caps : Caps) (s : State) (c : ℕ) (loose : (v : ℕ) → s .chain v c ≡ false) where
-  -- two bodies whose records agree at a slot of c
-  body-slot : (b b′ : Body) (z : Slot) → ((k : ℕ) → z ≡ Cell c k → getD (cornersOf s c b′) k 0 ≡ getD (cornersOf s c b) k 0)
-      → wordOf caps (withBody s c b′) z ≡ wordOf caps (withBody s c b) z
-  unfolding wordOf
-  body-slot b b′ (Head k) f = ap (λ (l : List ℕ). getD l k 0) (head-same caps s c b b′)
-  body-slot b b′ (Mark v k) f = ap (λ (l : List ℕ). getD l k 0) (mark-same caps s c b b′ v)
-  body-slot b b′ (Cold e k) f = refl
-  body-slot b b′ (Cell e k) f = go (ℕ-discrete e c)
+  -- no link leads to a loose cell
+  link-loose : (v lo : ℕ) → link caps (withBody s c b) v lo ≡ link caps s v lo
+  unfolding link ahead chainOf withBody linkTo
+  link-loose v lo = go (ahead caps s v lo) refl
     where
-      go : Dec (e ≡ c) → getD (cellWords caps (withBody s c b′) e) k 0 ≡ getD (cellWords caps (withBody s c b) e) k 0
-      go (yes q) =
-          ap (λ (i : ℕ). getD (cellWords caps (withBody s c b′) i) k 0) q
-          ∙ (ap (λ (l : List ℕ). getD l k 0) (loose-words caps s c loose b′)
-          ∙ (f k (ap (λ (i : ℕ). Cell i k) q)
-          ∙ (ap (λ (l : List ℕ). getD l k 0) (sym (loose-words caps s c loose b))
-          ∙ ap (λ (i : ℕ). getD (cellWords caps (withBody s c b) i) k 0) (sym q))))
-      go (no n) = ap (λ (l : List ℕ). getD l k 0) (other-words caps s c loose b′ e n ∙ sym (other-words caps s c loose b e n))
+      go : (x : ℕ) → ahead caps s v lo ≡ x → linkTo (withBody s c b .at) v x ≡ linkTo (s .at) v x
+      go zero e = refl
+      go (suc d) e =
+          ap (λ (y : Body). suc (8 * d + place v (y .marks)))
+          (body-other s c b d (λ q. clash (ahead-there caps s v lo d e .1) (ap (s .chain v) q ∙ loose v)))
 
-  -- a body whose record is that of another is as good
-  pub body-alike : (w : List ℕ) (b b′ : Body) → b′ .code ≡ b .code → ((j : ℕ) → j < 4 → getD (b′ .marks) j 0 ≡ getD (b .marks) j 0)
-      → Pic w caps (withBody s c b) → Pic w caps (withBody s c b′)
-  unfolding cornersOf
-  body-alike w b b′ code corners =
-      pic-same w caps (withBody s c b) (withBody s c b′)
-      (λ z in-z. sym (body-slot b b′ z (λ k q. alike k)))
+  -- and it has none
+  link-none : (k : ℕ) → linkWord caps s c k ≡ 0
+  unfolding linkWord
+  link-none k = and-none (ltb k (length (s .at c .marks))) (s .chain (corner s c k) c) (link caps s (corner s c k) (suc c)) (loose (corner s c k))
+
+  -- of another cell nothing differs
+  cell-other : (e : ℕ) (f : CellField) → (e ≡ c → ⊥) → cellWord caps (withBody s c b) e f ≡ cellWord caps s e f
+  unfolding cellWord corner linkWord withBody
+  cell-other e Code ne = ap (λ (y : Body). y .code) (body-other s c b e ne)
+  cell-other e (Near k) ne = ap (λ (y : Body). getD (y .marks) k 0) (body-other s c b e ne)
+  cell-other e (Sib f) ne = refl
+  cell-other e (Link k) ne =
+      ap (λ (y : Body). cond (ltb k (length (y .marks)) && s .chain (getD (y .marks) k 0) e) (link caps (withBody s c b) (getD (y .marks) k 0) (suc e)) 0)
+      (body-other s c b e ne)
+      ∙ ap (λ (n : ℕ). cond (ltb k (length (s .at e .marks)) && s .chain (getD (s .at e .marks) k 0) e) n 0) (link-loose (getD (s .at e .marks) k 0) (suc e))
+  cell-other e (Far k) ne = ap (λ (y : Body). cond (ltb 4 (length (y .marks))) (getD (y .marks) k 0) 0) (body-other s c b e ne)
+  cell-other e (CellRest p) ne = refl
+
+  mark-same : (v : ℕ) (f : MarkField) → markWord caps (withBody s c b) v f ≡ markWord caps s v f
+  unfolding markWord chainOf withBody
+  mark-same v First = link-loose v 0
+  mark-same v Held = refl
+  mark-same v (Anchor d) = refl
+  mark-same v (MarkRest k) = refl
+
+codeNumber : CellField → ℕ
+codeNumber Code = 0
+codeNumber (Near k) = 1
+codeNumber (Sib f) = 2
+codeNumber (Link k) = 3
+codeNumber (Far k) = 4
+codeNumber (CellRest p) = 5
+
+cellOf : Slot → ℕ
+cellOf (InHead f) = 0
+cellOf (InMark v f) = 0
+cellOf (InCell d f) = suc d
+
+-- the fields that a body is written to; the second part where it holds marks
+Written : Bool → CellField → Type 0
+Written far Code = true ≡ true
+Written far (Near k) = true ≡ true
+Written far (Sib f) = true ≡ false
+Written far (Link k) = true ≡ false
+Written far (Far k) = far ≡ true
+Written far (CellRest p) = true ≡ false
+
+module _ (caps : Caps) (s : State) (c t : ℕ) (marks : List ℕ) (far : Bool) (may : MayWrite caps c marks far s) where
+  after : State
+  after = withBody s c (bodyOf t marks)
+
+  short : (l : List ℕ) (k : ℕ) → length l ≤ 4 → cond (ltb 4 (length l)) (getD l k 0) 0 ≡ 0
+  short l k h = rw (le-ltb 4 (length l) h)
+
+  -- no other word differs
+  own-same : (f : CellField) → (Written far f → ⊥) → cellWord caps after c f ≡ cellWord caps s c f
+  unfolding after Written cellWord corner withBody
+  own-same Code n = absurd (n refl)
+  own-same (Near k) n = absurd (n refl)
+  own-same (Sib f) n = refl
+  own-same (Link k) n = link-none caps after c (may .loose) (bodyOf t marks) k ∙ sym (link-none caps s c (may .loose) (bodyOf t marks) k)
+  own-same (Far k) n =
+      let small = may .near (not-true-false far n) in
+      ap (λ (y : Body). cond (ltb 4 (length (y .marks))) (getD (y .marks) k 0) 0) (body-here s c (bodyOf t marks))
+      ∙ (short marks k (small .1) ∙ sym (short (s .at c .marks) k (small .0)))
+  own-same (CellRest p) n = refl
+
+  -- what stands in the fields that are written
+  own-code : cellWord caps after c Code ≡ t
+  unfolding after cellWord
+  own-code = ap (λ (y : Body). y .code) (body-here s c (bodyOf t marks))
+
+  own-near : (k : ℕ) → cellWord caps after c (Near k) ≡ getD marks k 0
+  unfolding after cellWord corner
+  own-near k = ap (λ (y : Body). getD (y .marks) k 0) (body-here s c (bodyOf t marks))
+
+  own-far : far ≡ true → (k : ℕ) → cellWord caps after c (Far k) ≡ getD marks k 0
+  unfolding after cellWord corner
+  own-far e k =
+      ap (λ (y : Body). cond (ltb 4 (length (y .marks))) (getD (y .marks) k 0) 0) (body-here s c (bodyOf t marks))
+      ∙ ⊎-elim (λ (h : 4 < length marks). rw (lt-ltb 4 (length marks) h)) (λ (z : marks ≡ []). none z) (may .all e)
     where
-      lists : cornersOf s c b′ ≡ cornersOf s c b
-      lists = rw (code, corners 0 (omega arith), corners 1 (omega arith), corners 2 (omega arith), corners 3 (omega arith))
+      none : marks ≡ [] → cond (ltb 4 (length marks)) (getD marks k 0) 0 ≡ getD marks k 0
+      none z = rw z refl
 
-      alike : (k : ℕ) → getD (cornersOf s c b′) k 0 ≡ getD (cornersOf s c b) k 0
-      alike k = ap (λ (l : List ℕ). getD l k 0) lists
-
-  -- one word of the record written
-  body-put : (w : List ℕ) (b b′ : Body) (k y : ℕ) → c < caps .cells → k < 16 → getD (cornersOf s c b′) k 0 ≡ y
-      → ((j : ℕ) → (j ≡ k → ⊥) → getD (cornersOf s c b′) j 0 ≡ getD (cornersOf s c b) j 0)
-      → Pic w caps (withBody s c b) → Pic (setCell w caps c k y) caps (withBody s c b′)
-  unfolding address wordOf
-  body-put w b b′ k y hc hk here others p =
-      rw (cell-in w caps c k y hc hk)
-      (pic-put w caps (withBody s c b) (withBody s c b′) (Cell c k) y p (hc, hk)
-      (ap (λ (l : List ℕ). getD l k 0) (loose-words caps s c loose b′) ∙ here)
-      (λ z in-z ne. body-slot b b′ z (λ j q. others j (λ e. ne (q ∙ ap (Cell c) e)))))
-
--- a body put where it stands changes nothing
-same-body : (s : State) (c : ℕ) → withBody s c (s .at c) ≡ s
-unfolding withBody
-same-body s c =
-    ap (λ (at : ℕ → Body). record { at = at; chain = s .chain; sib = s .sib; anc = s .anc; count = s .count }) (fun-ext (λ k. go k (ℕ-discrete c k)))
-  where
-    go : (k : ℕ) → Dec (c ≡ k) → cond (eqb c k) (s .at c) (s .at k) ≡ s .at k
-    go k (yes e) = rw (eq-eqb c k e) (ap (s .at) e)
-    go k (no f) = rw (ne-eqb c k f)
-
--- the marks, as far as they are written, and then the corners that stood there
-unfoldable pub mixed : (ℕ → ℕ) → List ℕ → ℕ → List ℕ
-mixed old marks k =
-    cond (ltb 0 k) (getD marks 0 0) (old 0)
-    ∷ cond (ltb 1 k) (getD marks 1 0) (old 1)
-    ∷ cond (ltb 2 k) (getD marks 2 0) (old 2)
-    ∷ cond (ltb 3 k) (getD marks 3 0) (old 3)
-    ∷ []
-
-module _ (old : ℕ → ℕ) (marks : List ℕ) where
-  mixed-at : (k j : ℕ) → j < 4 → getD (mixed old marks k) j 0 ≡ cond (ltb j k) (getD marks j 0) (old j)
-  unfolding mixed
-  mixed-at k zero h = refl
-  mixed-at k (suc zero) h = refl
-  mixed-at k (suc (suc zero)) h = refl
-  mixed-at k (suc (suc (suc zero))) h = refl
-  mixed-at k (suc (suc (suc (suc j)))) h = absurd (omega arith)
-
-  mixed-next : (k j : ℕ) → (j ≡ k → ⊥) → cond (ltb j (k + 1)) (getD marks j 0) (old j) ≡ cond (ltb j k) (getD marks j 0) (old j)
-  mixed-next k j ne = go (decLt j k)
+  -- the writes of the code: the first four marks, all marks where the second part holds any, the type
+  module _
+      (w w₁ w₂ w₃ : List ℕ) (p : Pic w caps s) (near : Fills Near caps c marks w 4 w₁) (two : Fars far caps c marks w₁ w₂)
+      (e : w₃ ≡ written w₂ caps (InCell c Code) t)
     where
-      go : Dec (j < k) → cond (ltb j (k + 1)) (getD marks j 0) (old j) ≡ cond (ltb j k) (getD marks j 0) (old j)
-      go (yes h) = rw (lt-ltb j k h, lt-ltb j (k + 1) (omega arith))
-      go (no f) = rw (le-ltb j k (omega arith), le-ltb j (k + 1) (omega arith))
+      size : room (caps .marks) (caps .cells) ≤ length w₂
+      size = omega (arith, p .fits, near .inside .size, two .inside .size)
 
-corner-at : (s : State) (c : ℕ) (b : Body) (j : ℕ) → j < 4 → getD (cornersOf s c b) (1 + j) 0 ≡ getD (b .marks) j 0
-unfolding cornersOf
-corner-at s c b zero h = refl
-corner-at s c b (suc zero) h = refl
-corner-at s c b (suc (suc zero)) h = refl
-corner-at s c b (suc (suc (suc zero))) h = refl
-corner-at s c b (suc (suc (suc (suc j)))) h = absurd (omega arith)
+      -- a slot that is not written
+      untouched : (z : Slot) → Within (caps .marks) (caps .cells) z → ((f : CellField) → z ≡ InCell c f → Written far f → ⊥)
+          → wordOf caps after z ≡ wordOf caps s z → read w₃ caps z ≡ wordOf caps after z
+      unfolding cellOpen Written
+      untouched z i ne same =
+          ap (λ (m : List ℕ). read m caps z) e
+          ∙ (written-other w₂ caps c Code t refl z i (omega arith) (λ q. ne Code q refl)
+          ∙ (two .kept z i (λ far-yes k h q. ne (Far k) q far-yes)
+          ∙ (near .kept z i (λ k h q. ne (Near k) q refl) ∙ (p .words z i ∙ sym same))))
 
-abbrev pub mixedBody : State → ℕ → List ℕ → ℕ → Body
-mixedBody s c marks k = record { code = s .at c .code; marks = mixed (corner s c) marks k }
+      -- a field of the cell itself
+      fieldOf : Slot → CellField
+      fieldOf (InHead f) = CellRest (InNear 0)
+      fieldOf (InMark v f) = CellRest (InNear 0)
+      fieldOf (InCell d f) = f
 
-module _ (caps : Caps) (s : State) (c : ℕ) (marks : List ℕ) where
-  -- at first nothing is written
-  mixed-start : (w : List ℕ) → ((v : ℕ) → s .chain v c ≡ false) → Pic w caps s → Pic w caps (withBody s c (mixedBody s c marks 0))
-  unfolding corner
-  mixed-start w loose p =
-      body-alike caps s c loose w (s .at c) (mixedBody s c marks 0) refl
-      (λ j h. mixed-at (corner s c) marks 0 j h ∙ rw (le-ltb j 0 (omega arith)))
-      (subst (λ (x : State). Pic w caps x) (sym (same-body s c)) p)
+      rest : (f : CellField) → Within (caps .marks) (caps .cells) (InCell c f) → (Written far f → ⊥) → read w₃ caps (InCell c f) ≡ wordOf caps after (InCell c f)
+      unfolding wordOf fieldOf
+      rest f i n = untouched (InCell c f) i (λ g q y. n (subst (Written far) (sym (ap fieldOf q)) y)) (own-same f n)
 
-  -- one corner more
-  mixed-more : (w : List ℕ) (k : ℕ) → ((v : ℕ) → s .chain v c ≡ false) → c < caps .cells → k < 4
-      → Pic w caps (withBody s c (mixedBody s c marks k))
-      → Pic (setCell w caps c (1 + k) (getD marks k 0)) caps (withBody s c (mixedBody s c marks (k + 1)))
-  unfolding cornersOf
-  mixed-more w k loose hc hk p =
-      body-put caps s c loose w (mixedBody s c marks k) (mixedBody s c marks (k + 1)) (1 + k) (getD marks k 0) hc (omega arith) here
-      (λ j ne. others j ne) p
-    where
-      here : getD (cornersOf s c (mixedBody s c marks (k + 1))) (1 + k) 0 ≡ getD marks k 0
-      here = corner-at s c (mixedBody s c marks (k + 1)) k hk ∙ (mixed-at (corner s c) marks (k + 1) k hk ∙ rw (lt-ltb k (k + 1) (omega arith)))
+      -- a written field that no later write touches
+      still : (f : CellField) → Within (caps .marks) (caps .cells) (InCell c f) → (f ≡ Code → ⊥) → read w₃ caps (InCell c f) ≡ read w₂ caps (InCell c f)
+      unfolding cellOpen fieldOf
+      still f i n = ap (λ (m : List ℕ). read m caps (InCell c f)) e ∙ written-other w₂ caps c Code t refl (InCell c f) i (omega arith) (λ q. n (ap fieldOf q))
 
-      same : (i : ℕ) → i < 4 → (1 + i ≡ 1 + k → ⊥)
-          → getD (mixed (corner s c) marks (k + 1)) i 0 ≡ getD (mixed (corner s c) marks k) i 0
-      same i h ne =
-          mixed-at (corner s c) marks (k + 1) i h
-          ∙ (mixed-next (corner s c) marks k i (λ e. ne (ap (λ (n : ℕ). 1 + n) e)) ∙ sym (mixed-at (corner s c) marks k i h))
+      own : (f : CellField) → Within (caps .marks) (caps .cells) (InCell c f) → read w₃ caps (InCell c f) ≡ wordOf caps after (InCell c f)
+      unfolding wordOf cellOpen Written fieldOf codeNumber
+      own Code i =
+          ap (λ (m : List ℕ). read m caps (InCell c Code)) e ∙ (written-here w₂ caps c Code t refl (i .0) (omega arith) size ∙ sym own-code)
+      own (Near k) i =
+          still (Near k) i (λ q. absurd (omega (arith, ap codeNumber q)))
+          ∙ (two .kept (InCell c (Near k)) i (λ y j h q. absurd (omega (arith, ap codeNumber (ap fieldOf q))))
+          ∙ (near .wrote (i .0) (p .fits) k (i .1) ∙ sym (own-near k)))
+      own (Sib f) i = rest (Sib f) i (λ y. clash refl y)
+      own (Link k) i = rest (Link k) i (λ y. clash refl y)
+      own (Far k) i = go far refl
+        where
+          go : (b : Bool) → far ≡ b → read w₃ caps (InCell c (Far k)) ≡ cellWord caps after c (Far k)
+          go true y =
+              still (Far k) i (λ q. absurd (omega (arith, ap codeNumber q)))
+              ∙ (two .wrote y (i .0) (omega (arith, p .fits, near .inside .size)) k (i .1) ∙ sym (own-far y k))
+          go false n = rest (Far k) i (λ y. clash y n)
+      own (CellRest q) i = rest (CellRest q) i (λ y. clash refl y)
 
-      others : (j : ℕ) → (j ≡ 1 + k → ⊥) → getD (cornersOf s c (mixedBody s c marks (k + 1))) j 0 ≡ getD (cornersOf s c (mixedBody s c marks k)) j 0
-      others zero ne = refl
-      others (suc zero) ne = same 0 (omega arith) ne
-      others (suc (suc zero)) ne = same 1 (omega arith) ne
-      others (suc (suc (suc zero))) ne = same 2 (omega arith) ne
-      others (suc (suc (suc (suc zero)))) ne = same 3 (omega arith) ne
-      others (suc (suc (suc (suc (suc j))))) ne = refl
+      body-pic : Pic w₃ caps after
+      unfolding cellOf wordOf after withBody
+      body-pic = record {
+        marks = p .marks;
+        cells = p .cells;
+        fits = rw e (omega (arith, size, write-only w₂ caps t (InCell c Code) .size));
+        words = at;
+      }
+        where
+          cell : (d : ℕ) (f : CellField) → Within (caps .marks) (caps .cells) (InCell d f) → Dec (d ≡ c)
+              → read w₃ caps (InCell d f) ≡ wordOf caps after (InCell d f)
+          cell d f i (yes q) = rw q (own f (subst (λ (k : ℕ). Within (caps .marks) (caps .cells) (InCell k f)) q i))
+          cell d f i (no n) =
+              untouched (InCell d f) i (λ g q y. n (omega (arith, ap cellOf q))) (cell-other caps s c (may .loose) (bodyOf t marks) d f n)
 
-  -- all corners, and then the type
-  mixed-done : (w : List ℕ) (t : ℕ) → ((v : ℕ) → s .chain v c ≡ false) → c < caps .cells
-      → Pic w caps (withBody s c (mixedBody s c marks 4)) → Pic (setCell w caps c 0 t) caps (withBody s c (record { code = t; marks = marks }))
-  unfolding cornersOf
-  mixed-done w t loose hc p =
-      body-put caps s c loose w (record { code = s .at c .code; marks = marks }) (record { code = t; marks = marks }) 0 t hc (omega arith) refl
-      others
-      (body-alike caps s c loose w (mixedBody s c marks 4) (record { code = s .at c .code; marks = marks }) refl
-      (λ j h. sym (mixed-at (corner s c) marks 4 j h ∙ rw (lt-ltb j 4 h))) p)
-    where
-      others : (j : ℕ) → (j ≡ 0 → ⊥) → getD (cornersOf s c (record { code = t; marks = marks })) j 0 ≡ getD (cornersOf s c (record { code = s .at c .code; marks = marks })) j 0
-      others zero ne = absurd (ne refl)
-      others (suc j) ne = refl
+          at : (z : Slot) → Within (caps .marks) (caps .cells) z → read w₃ caps z ≡ wordOf caps after z
+          at (InHead f) i = untouched (InHead f) i (λ g q y. absurd (omega (arith, ap cellOf q))) refl
+          at (InMark v f) i =
+              untouched (InMark v f) i (λ g q y. absurd (omega (arith, ap cellOf q))) (mark-same caps s c (may .loose) (bodyOf t marks) v f)
+          at (InCell d f) i = cell d f i (ℕ-discrete d c)
 
--- after k corners, whatever the state was
-pub record Written (caps : Caps) (c : ℕ) (marks w w′ : List ℕ) (k : ℕ) : Type 0 where
-  pub inside : Only (Inside caps) w w′
-  pub state : (s : State) → Pic w caps s → MayWrite caps c marks s → Pic w′ caps (withBody s c (mixedBody s c marks k))
+pub body-step : (caps : Caps) (c t : ℕ) (marks : List ℕ) (far : Bool) (w w₁ w₂ w₃ : List ℕ) → Fills Near caps c marks w 4 w₁ → Fars far caps c marks w₁ w₂
+    → w₃ ≡ written w₂ caps (InCell c Code) t → Step caps w w₃ (MayWrite caps c marks far) (λ s. withBody s c (bodyOf t marks))
+unfolding after
+body-step caps c t marks far w w₁ w₂ w₃ near two e = record {
+  inside = only-then (near .inside) (only-then (two .inside) (rw e (write-only w₂ caps t (InCell c Code))));
+  state = λ s p may. body-pic caps s c t marks far may w w₁ w₂ w₃ p near two e;
+}
 
-module _ (caps : Caps) (c : ℕ) (marks w : List ℕ) where
-  pub written-start : Written caps c marks w w 0
-  written-start = record { inside = only-none; state = λ s p k. mixed-start caps s c marks w (k .loose) p }
+-- the second part, as the code goes
+pub fars-yes : (far : Bool) (caps : Caps) (c : ℕ) (marks w w′ : List ℕ) → Fills Far caps c marks w 8 w′ → far ≡ true → Fars far caps c marks w w′
+fars-yes far caps c marks w w′ a y = record { inside = a .inside; wrote = λ _. a .wrote; kept = λ z i ne. a .kept z i (ne y) }
 
-  pub written-more : (w′ w″ : List ℕ) (k x : ℕ) → Written caps c marks w w′ k → x ≡ getD marks k 0 → w″ ≡ setCell w′ caps c (1 + k) x → k < 4
-      → Written caps c marks w w″ (k + 1)
-  written-more w′ w″ k x p v e h = record {
-    inside = rw e (only-then (p .inside) (cell-only w′ caps c (1 + k) x));
-    state = λ s q m. rw (e, v) (mixed-more caps s c marks w′ k (m .loose) (m .cell) h (p .state s q m));
-  }
-
-  pub written-done : (w′ w″ : List ℕ) (k t : ℕ) → Written caps c marks w w′ k → w″ ≡ setCell w′ caps c 0 t → k ≤ 4 → 4 ≤ k
-      → Step caps w w″ (MayWrite caps c marks) (λ s. withBody s c (record { code = t; marks = marks }))
-  written-done w′ w″ k t p e a b = record {
-    inside = rw e (only-then (p .inside) (cell-only w′ caps c 0 t));
-    state = λ s q m.
-        let four : k ≡ 4 = omega arith in
-        rw e (mixed-done caps s c marks w′ t (m .loose) (m .cell) (rw four at (p .state s q m)));
-  }
+pub fars-no : (far : Bool) (caps : Caps) (c : ℕ) (marks w : List ℕ) → far ≡ false → Fars far caps c marks w w
+fars-no far caps c marks w n = record { inside = only-none; wrote = λ y. absurd (clash y n); kept = λ z i ne. refl }

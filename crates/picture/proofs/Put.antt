@@ -1,5 +1,6 @@
 -- One word written, and the state changed in that word alone; and two pictures of one state.
 use mathlib.Core.Path.{_≡_, refl, sym, ap, _∙_}
+use mathlib.Core.Bool.{true}
 use mathlib.Core.List.{List}
 use Prim.Native.Nat.{ℕ, _+_, _<_, _≤_}
 use native.Mathlib.Decide.{ℕ-discrete}
@@ -9,10 +10,12 @@ use lib.Seq.{ext-getD, getD-take, length-take-le}
 use Rattle.words.specs.Words.{Only}
 use Rattle.words.proofs.Frame.{read-same, read-other, only-put, only-none, only-then}
 use Rattle.numbers.specs.declared.Caps.{Caps}
-use Rattle.store.specs.Layout.{room, Slot, address, Within}
+use Rattle.store.specs.Layout.{room}
+use Rattle.store.specs.Slots.{Slot, address, Within, read, writable, written}
 use Rattle.store.proofs.Slots.{slot-below, slot-one, slot-of}
+use Rattle.store.proofs.Writes.{open-within, write-in, write-only}
 use Rattle.map.specs.Cells.{Map}
-use Rattle.picture.specs.State.{State, capsOf, stateOf}
+use Rattle.picture.specs.State.{State, stateOf}
 use Rattle.picture.specs.Picture.{wordOf, Pic, Wf}
 use Rattle.picture.specs.Step.{Step}
 
@@ -21,6 +24,7 @@ module _ (w : List ℕ) (caps : Caps) (s s′ : State) (x : Slot) (y : ℕ) wher
   pub pic-put : Pic w caps s → Within (caps .marks) (caps .cells) x → wordOf caps s′ x ≡ y
       → ((z : Slot) → Within (caps .marks) (caps .cells) z → (z ≡ x → ⊥) → wordOf caps s′ z ≡ wordOf caps s z)
       → Pic (set w (address (caps .marks) (caps .cells) x) y) caps s′
+  unfolding read
   pic-put p in-x e same = record {
     marks = p .marks;
     cells = p .cells;
@@ -42,6 +46,18 @@ module _ (w : List ℕ) (caps : Caps) (s s′ : State) (x : Slot) (y : ℕ) wher
           read-other w (address (caps .marks) (caps .cells) x) y (address (caps .marks) (caps .cells) z) f
           ∙ (p .words z in-z ∙ sym (same z in-z (λ q. f (ap (address (caps .marks) (caps .cells)) q))))
 
+-- a writing step of one word: the slot is written, and no other word of the state changes
+pub put-step : (caps : Caps) (w w′ : List ℕ) (x : Slot) (y : ℕ) (ok : State → Type 0) (f : State → State) → w′ ≡ written w caps x y
+    → ((s : State) → ok s → writable caps x ≡ true) → ((s : State) → ok s → wordOf caps (f s) x ≡ y)
+    → ((s : State) → ok s → (z : Slot) → Within (caps .marks) (caps .cells) z → (z ≡ x → ⊥) → wordOf caps (f s) z ≡ wordOf caps s z)
+    → Step caps w w′ ok f
+put-step caps w w′ x y ok f e may here other = record {
+  inside = rw e (write-only w caps y x);
+  state = λ s p k.
+      rw (e, write-in w caps y x (may s k))
+      (pic-put w caps s (f s) x y p (open-within caps x (may s k)) (here s k) (other s k));
+}
+
 -- a picture depends on the words of the state alone
 pub pic-same : (w : List ℕ) (caps : Caps) (s s′ : State)
     → ((z : Slot) → Within (caps .marks) (caps .cells) z → wordOf caps s z ≡ wordOf caps s′ z) → Pic w caps s → Pic w caps s′
@@ -50,6 +66,7 @@ pic-same w caps s s′ same p = record { marks = p .marks; cells = p .cells; fit
 -- two pictures of one state are equal word for word
 pub pic-one : (w w′ : List ℕ) (caps : Caps) (s : State) → Pic w caps s → Pic w′ caps s
     → take (room (caps .marks) (caps .cells)) w ≡ take (room (caps .marks) (caps .cells)) w′
+unfolding read
 pic-one w w′ caps s p q =
     ext-getD 0 (take n w) (take n w′) (length-take-le n w (p .fits) ∙ sym (length-take-le n w′ (q .fits)))
     (λ i h.
@@ -65,9 +82,8 @@ pic-one w w′ caps s p q =
         rw (x .2) at (p .words (x .0) (x .1) ∙ sym (q .words (x .0) (x .1)))
 
 -- "two well-formed memories of the same capacities and live cells are equal word for word, whatever the history"
-pub wf-one : (w w′ : List ℕ) (m : Map) → Wf w m → Wf w′ m → take (room (m .marks) (m .cells)) w ≡ take (room (m .marks) (m .cells)) w′
-unfolding capsOf
-wf-one w w′ m a b = pic-one w w′ (capsOf m) (stateOf m) (a .picture) (b .picture)
+pub wf-one : (w w′ : List ℕ) (m : Map) → Wf w m → Wf w′ m → take (room (m .caps .marks) (m .caps .cells)) w ≡ take (room (m .caps .marks) (m .caps .cells)) w′
+wf-one w w′ m a b = pic-one w w′ (m .caps) (stateOf m) (a .picture) (b .picture)
 
 -- steps one after another
 pub step-then : {caps : Caps} {w w′ w″ : List ℕ} {ok ok′ : State → Type 0} {f g : State → State} → Step caps w w′ ok f → Step caps w′ w″ ok′ g

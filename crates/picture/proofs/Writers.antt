@@ -1,151 +1,111 @@
--- The writers of single words: each changes the state in its own place.
+-- The writers of single words: each changes the state in its own place, and no other word.
 use mathlib.Core.Path.{_≡_, refl, sym, ap, ap₂, _∙_}
 use mathlib.Core.Bool.{Bool, true, false, cond, _&&_}
-use mathlib.Core.List.{List, [], _∷_}
-use Prim.Native.Nat.{ℕ, zero, suc, _+_, _*_, _<_, _≤_}
-use native.Mathlib.Decide.{decLt, ℕ-discrete}
+use mathlib.Core.List.{List}
+use Prim.Native.Nat.{ℕ, suc, _+_, _*_, _/_, _%_, _<_, _≤_}
 use native.Mathlib.Omega.{arith}
-use borrow.Author.Tests.{eq-eqb, ne-eqb, eqb-true}
+use borrow.Author.Tests.{eq-eqb, ne-eqb, eqb-true, lt-ltb, le-leb}
 use lib.Dec.{eqb}
-use lib.ListN.{getD, set, length}
-use Rattle.lists.proofs.Bools.{clash, either, not-true-false, and-left, and-right}
-use Rattle.words.specs.Words.{Only}
-use Rattle.words.proofs.Frame.{only-put, only-none}
+use lib.ListN.{length}
 use Rattle.numbers.specs.declared.Caps.{Caps}
-use Rattle.store.specs.Layout.{room, markAt, cellAt, Slot, Head, Mark, Cell, Cold, address, Within}
-use Rattle.store.specs.Slots.{setMark, setCell}
-use Rattle.store.proofs.Slots.{slot-below}
-use Rattle.store.proofs.Writes.{mark-in, mark-out, mark-past, cell-in, cell-out, cell-past}
+use Rattle.store.specs.Fields.{Magic, MarkCap, CellCap, Count, HeadRest, First, Held, Anchor, MarkRest, Code, Near, Sib, Link, Far, CellRest}
+use Rattle.store.specs.Slots.{Slot, InHead, InMark, InCell, headOpen, markOpen, cellOpen, writable, written, Within}
 use Rattle.picture.specs.State.{State}
-use Rattle.picture.specs.Picture.{chainOf, link, corner, linkWord, headWords, markWords, cellWords, wordOf, Pic}
-use Rattle.picture.specs.Changes.{withBody, withAnc, withCount}
+use Rattle.picture.specs.Picture.{chainOf, ahead, link, corner, linkWord, headWord, markWord, cellWord, wordOf, Pic}
+use Rattle.picture.specs.Changes.{withSib, withAnc, withCount}
 use Rattle.picture.specs.Step.{Step}
-use Rattle.picture.proofs.Put.{pic-put}
+use Rattle.picture.proofs.Put.{put-step}
 
-abbrev pub Inside : Caps → ℕ → Type 0
-Inside caps i = i < room (caps .marks) (caps .cells)
-
--- a guarded write stays in the room
-pub mark-only : (w : List ℕ) (caps : Caps) (v k x : ℕ) → Only (Inside caps) w (setMark w caps v k x)
-unfolding address
-mark-only w caps v k x = go (decLt v (caps .marks)) (decLt k 8)
-  where
-    go : Dec (v < caps .marks) → Dec (k < 8) → Only (Inside caps) w (setMark w caps v k x)
-    go (yes a) (yes b) =
-        rw (mark-in w caps v k x a b) (only-put w (markAt v + k) x (slot-below (caps .marks) (caps .cells) (Mark v k) (a, b)))
-    go (yes a) (no b) = rw (mark-past w caps v k x a (omega arith)) only-none
-    go (no a) d = rw (mark-out w caps v k x (omega arith)) only-none
-
-pub cell-only : (w : List ℕ) (caps : Caps) (c k x : ℕ) → Only (Inside caps) w (setCell w caps c k x)
-unfolding address
-cell-only w caps c k x = go (decLt c (caps .cells)) (decLt k 16)
-  where
-    go : Dec (c < caps .cells) → Dec (k < 16) → Only (Inside caps) w (setCell w caps c k x)
-    go (yes a) (yes b) =
-        rw (cell-in w caps c k x a b) (only-put w (cellAt (caps .marks) c + k) x (slot-below (caps .marks) (caps .cells) (Cell c k) (a, b)))
-    go (yes a) (no b) = rw (cell-past w caps c k x a (omega arith)) only-none
-    go (no a) d = rw (cell-out w caps c k x (omega arith)) only-none
-
-module _ (caps : Caps) (s : State) (d v x : ℕ) where
-  -- the word of a first anchor
-  pub anchor-word : (u e : ℕ) → 1 ≤ e → e ≤ 3 → wordOf caps s (Mark u (1 + e)) ≡ s .anc e u
-  unfolding wordOf markWords
-  anchor-word u zero a b = absurd (omega arith)
-  anchor-word u (suc zero) a b = refl
-  anchor-word u (suc (suc zero)) a b = refl
-  anchor-word u (suc (suc (suc zero))) a b = refl
-  anchor-word u (suc (suc (suc (suc e)))) a b = absurd (omega arith)
-
-  anchor-other : 1 ≤ d → d ≤ 3 → (z : Slot) → (z ≡ Mark v (1 + d) → ⊥) → wordOf caps (withAnc s d v x) z ≡ wordOf caps s z
-  unfolding withAnc wordOf headWords markWords cellWords link chainOf corner linkWord
-  anchor-other a b (Head k) ne = refl
-  anchor-other a b (Cell c k) ne = refl
-  anchor-other a b (Cold c k) ne = refl
-  anchor-other a b (Mark u k) ne = at k ne
-    where
-      kept : (e : ℕ) → (Mark u (1 + e) ≡ Mark v (1 + d) → ⊥) → cond (eqb d e && eqb v u) x (s .anc e u) ≡ s .anc e u
-      kept e f = go (eqb d e) refl (eqb v u) refl
-        where
-          go : (p : Bool) → eqb d e ≡ p → (q : Bool) → eqb v u ≡ q → cond (p && q) x (s .anc e u) ≡ s .anc e u
-          go true p true q = absurd (f (ap₂ Mark (sym (eqb-true v u q)) (ap (λ (n : ℕ). 1 + n) (sym (eqb-true d e p)))))
-          go true p false q = refl
-          go false p t q = refl
-
-      at : (k : ℕ) → (Mark u k ≡ Mark v (1 + d) → ⊥) → getD (markWords caps (withAnc s d v x) u) k 0 ≡ getD (markWords caps s u) k 0
-      at zero f = refl
-      at (suc zero) f = refl
-      at (suc (suc zero)) f = kept 1 f
-      at (suc (suc (suc zero))) f = kept 2 f
-      at (suc (suc (suc (suc zero)))) f = kept 3 f
-      at (suc (suc (suc (suc (suc k))))) f = refl
-
--- what was just put is there
-anc-here : (s : State) (d v x : ℕ) → withAnc s d v x .anc d v ≡ x
-unfolding withAnc
-anc-here s d v x = rw (eq-eqb d d refl, eq-eqb v v refl)
-
-count-here : (s : State) (t x : ℕ) → withCount s t x .count t ≡ x
-unfolding withCount
-count-here s t x = rw (eq-eqb t t refl)
-
-pub anchor-step : (caps : Caps) (w w′ : List ℕ) (d v x : ℕ) → w′ ≡ setMark w caps v (1 + d) x
-    → Step caps w w′ (λ s. (v < caps .marks) × (1 ≤ d) × (d ≤ 3)) (λ s. withAnc s d v x)
-unfolding address
-anchor-step caps w w′ d v x e = record {
-  inside = rw e (mark-only w caps v (1 + d) x);
-  state = λ s p k.
-      rw (e, mark-in w caps v (1 + d) x (k .0) (omega arith))
-      (pic-put w caps s (withAnc s d v x) (Mark v (1 + d)) x p (k .0, omega arith)
-      (anchor-word caps (withAnc s d v x) d v x v d (k .1) (k .2) ∙ anc-here s d v x)
-      (λ z in-z ne. anchor-other caps s d v x (k .1) (k .2) z ne));
-}
+-- a number put under another key is not seen
+kept : (a b x y : ℕ) → (b ≡ a → ⊥) → cond (eqb a b) x y ≡ y
+kept a b x y f = rw (ne-eqb a b (λ e. f (sym e)))
 
 module _ (caps : Caps) (s : State) (t x : ℕ) where
-  count-other : (z : Slot) → (z ≡ Head (4 + t) → ⊥) → wordOf caps (withCount s t x) z ≡ wordOf caps s z
-  unfolding withCount wordOf headWords markWords cellWords link chainOf corner linkWord
-  count-other (Mark u k) ne = refl
-  count-other (Cell c k) ne = refl
-  count-other (Cold c k) ne = refl
-  count-other (Head k) ne = at k ne
+  count-here : wordOf caps (withCount s t x) (InHead (Count t)) ≡ x
+  unfolding wordOf headWord withCount
+  count-here = rw (eq-eqb t t refl)
+
+  count-other : (z : Slot) → (z ≡ InHead (Count t) → ⊥) → wordOf caps (withCount s t x) z ≡ wordOf caps s z
+  unfolding withCount wordOf headWord markWord cellWord link ahead chainOf corner linkWord
+  count-other (InHead Magic) ne = refl
+  count-other (InHead MarkCap) ne = refl
+  count-other (InHead CellCap) ne = refl
+  count-other (InHead (Count u)) ne = kept t u x (s .count u) (λ e. ne (ap (λ (n : ℕ). InHead (Count n)) e))
+  count-other (InHead (HeadRest k)) ne = refl
+  count-other (InMark v First) ne = refl
+  count-other (InMark v Held) ne = refl
+  count-other (InMark v (Anchor d)) ne = refl
+  count-other (InMark v (MarkRest k)) ne = refl
+  count-other (InCell c Code) ne = refl
+  count-other (InCell c (Near k)) ne = refl
+  count-other (InCell c (Sib f)) ne = refl
+  count-other (InCell c (Link k)) ne = refl
+  count-other (InCell c (Far k)) ne = refl
+  count-other (InCell c (CellRest p)) ne = refl
+
+pub count-step : (caps : Caps) (w w′ : List ℕ) (t x : ℕ) → w′ ≡ written w caps (InHead (Count t)) x
+    → Step caps w w′ (λ s. (1 ≤ t) × (t ≤ 7)) (λ s. withCount s t x)
+unfolding writable headOpen
+count-step caps w w′ t x e =
+    put-step caps w w′ (InHead (Count t)) x (λ s. (1 ≤ t) × (t ≤ 7)) (λ s. withCount s t x) e (λ s k. rw (le-leb 1 t (k .0), le-leb t 7 (k .1)) refl)
+    (λ s k. count-here caps s t x) (λ s k z in-z. count-other caps s t x z)
+
+module _ (caps : Caps) (s : State) (d v x : ℕ) where
+  anchor-here : wordOf caps (withAnc s d v x) (InMark v (Anchor d)) ≡ x
+  unfolding wordOf markWord withAnc
+  anchor-here = rw (eq-eqb d d refl, eq-eqb v v refl)
+
+  anchor-other : (z : Slot) → (z ≡ InMark v (Anchor d) → ⊥) → wordOf caps (withAnc s d v x) z ≡ wordOf caps s z
+  unfolding withAnc wordOf headWord markWord cellWord link ahead chainOf corner linkWord
+  anchor-other (InHead f) ne = refl
+  anchor-other (InMark u First) ne = refl
+  anchor-other (InMark u Held) ne = refl
+  anchor-other (InMark u (Anchor e)) ne = go (eqb d e) refl (eqb v u) refl
     where
-      kept : (u : ℕ) → (Head (4 + u) ≡ Head (4 + t) → ⊥) → cond (eqb t u) x (s .count u) ≡ s .count u
-      kept u f = go (eqb t u) refl
-        where
-          go : (p : Bool) → eqb t u ≡ p → cond p x (s .count u) ≡ s .count u
-          go true p = absurd (f (ap (λ (n : ℕ). Head (4 + n)) (sym (eqb-true t u p))))
-          go false p = refl
+      go : (p : Bool) → eqb d e ≡ p → (q : Bool) → eqb v u ≡ q → cond (p && q) x (s .anc e u) ≡ s .anc e u
+      go true p true q = absurd (ne (ap₂ (λ (n k : ℕ). InMark n (Anchor k)) (sym (eqb-true v u q)) (sym (eqb-true d e p))))
+      go true p false q = refl
+      go false p t q = refl
+  anchor-other (InMark u (MarkRest k)) ne = refl
+  anchor-other (InCell c Code) ne = refl
+  anchor-other (InCell c (Near k)) ne = refl
+  anchor-other (InCell c (Sib f)) ne = refl
+  anchor-other (InCell c (Link k)) ne = refl
+  anchor-other (InCell c (Far k)) ne = refl
+  anchor-other (InCell c (CellRest p)) ne = refl
 
-      at : (k : ℕ) → (Head k ≡ Head (4 + t) → ⊥) → getD (headWords caps (withCount s t x)) k 0 ≡ getD (headWords caps s) k 0
-      at zero f = refl
-      at (suc zero) f = refl
-      at (suc (suc zero)) f = refl
-      at (suc (suc (suc zero))) f = refl
-      at (suc (suc (suc (suc zero)))) f = refl
-      at (suc (suc (suc (suc (suc zero))))) f = kept 1 f
-      at (suc (suc (suc (suc (suc (suc zero)))))) f = kept 2 f
-      at (suc (suc (suc (suc (suc (suc (suc zero))))))) f = kept 3 f
-      at (suc (suc (suc (suc (suc (suc (suc (suc zero)))))))) f = kept 4 f
-      at (suc (suc (suc (suc (suc (suc (suc (suc (suc k))))))))) f = refl
+pub anchor-step : (caps : Caps) (w w′ : List ℕ) (d v x : ℕ) → w′ ≡ written w caps (InMark v (Anchor d)) x
+    → Step caps w w′ (λ s. (v < caps .marks) × (1 ≤ d) × (d ≤ 3)) (λ s. withAnc s d v x)
+unfolding writable markOpen
+anchor-step caps w w′ d v x e =
+    put-step caps w w′ (InMark v (Anchor d)) x (λ s. (v < caps .marks) × (1 ≤ d) × (d ≤ 3)) (λ s. withAnc s d v x) e
+    (λ s k. rw (lt-ltb v (caps .marks) (k .0), le-leb 1 d (k .1), le-leb d 3 (k .2)) refl) (λ s k. anchor-here caps s d v x)
+    (λ s k z in-z. anchor-other caps s d v x z)
 
-  pub count-word : 1 ≤ t → t ≤ 4 → wordOf caps s (Head (4 + t)) ≡ s .count t
-  unfolding wordOf headWords
-  count-word a b = at t a b
-    where
-      at : (t : ℕ) → 1 ≤ t → t ≤ 4 → getD (headWords caps s) (4 + t) 0 ≡ s .count t
-      at zero a b = absurd (omega arith)
-      at (suc zero) a b = refl
-      at (suc (suc zero)) a b = refl
-      at (suc (suc (suc zero))) a b = refl
-      at (suc (suc (suc (suc zero)))) a b = refl
-      at (suc (suc (suc (suc (suc t))))) a b = absurd (omega arith)
+module _ (caps : Caps) (s : State) (h x : ℕ) where
+  sib-here : wordOf caps (withSib s h x) (InCell (h / 8) (Sib (h % 8))) ≡ x
+  unfolding wordOf cellWord withSib
+  sib-here = let same : h ≡ 8 * (h / 8) + h % 8 = omega arith in rw (eq-eqb h (8 * (h / 8) + h % 8) same)
 
-pub count-step : (caps : Caps) (w w′ : List ℕ) (t x : ℕ) → 1 ≤ t → t ≤ 4 → w′ ≡ set w (4 + t) x
-    → Step caps w w′ (λ s. (1 ≤ t) × (t ≤ 4)) (λ s. withCount s t x)
-unfolding address
-count-step caps w w′ t x a b e = record {
-  inside = rw e (only-put w (4 + t) x (slot-below (caps .marks) (caps .cells) (Head (4 + t)) (omega arith)));
-  state = λ s p k.
-      rw e
-      (pic-put w caps s (withCount s t x) (Head (4 + t)) x p (omega arith) (count-word caps (withCount s t x) t x a b ∙ count-here s t x)
-      (λ z in-z ne. count-other caps s t x z ne));
-}
+  sib-other : (z : Slot) → Within (caps .marks) (caps .cells) z → (z ≡ InCell (h / 8) (Sib (h % 8)) → ⊥) → wordOf caps (withSib s h x) z ≡ wordOf caps s z
+  unfolding withSib wordOf headWord markWord cellWord link ahead chainOf corner linkWord
+  sib-other (InHead f) i ne = refl
+  sib-other (InMark u First) i ne = refl
+  sib-other (InMark u Held) i ne = refl
+  sib-other (InMark u (Anchor e)) i ne = refl
+  sib-other (InMark u (MarkRest k)) i ne = refl
+  sib-other (InCell c Code) i ne = refl
+  sib-other (InCell c (Near k)) i ne = refl
+  sib-other (InCell c (Sib f)) i ne =
+      kept h (8 * c + f) x (s .sib (8 * c + f))
+      (λ e. ne (ap₂ (λ (n k : ℕ). InCell n (Sib k)) (omega (arith, i .1)) (omega (arith, i .1))))
+  sib-other (InCell c (Link k)) i ne = refl
+  sib-other (InCell c (Far k)) i ne = refl
+  sib-other (InCell c (CellRest p)) i ne = refl
+
+pub sib-step : (caps : Caps) (w w′ : List ℕ) (h x : ℕ) → w′ ≡ written w caps (InCell (h / 8) (Sib (h % 8))) x
+    → Step caps w w′ (λ s. (h / 8 < caps .cells) × (h % 8 < 6)) (λ s. withSib s h x)
+unfolding writable cellOpen
+sib-step caps w w′ h x e =
+    put-step caps w w′ (InCell (h / 8) (Sib (h % 8))) x (λ s. (h / 8 < caps .cells) × (h % 8 < 6)) (λ s. withSib s h x) e
+    (λ s k. rw (lt-ltb (h / 8) (caps .cells) (k .0), lt-ltb (h % 8) 6 (k .1)) refl) (λ s k. sib-here caps s h x) (λ s k. sib-other caps s h x)

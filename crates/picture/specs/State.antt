@@ -26,12 +26,9 @@ unfoldable pub next : List ℕ → ℕ
 next [] = 0
 next (x ∷ xs) = suc x
 
-unfoldable pub capsOf : Map → Caps
-capsOf m = record { marks = m .marks; cells = m .cells }
-
 -- the map that a state's cells make
 unfoldable pub mapWith : Caps → State → Map
-mapWith caps s = record { marks = caps .marks; cells = caps .cells; at = s .at }
+mapWith caps s = record { caps = caps; at = s .at }
 
 unfoldable pub stateOf : Map → State
 stateOf m = record {

@@ -6,16 +6,15 @@ use native.Mathlib.Omega.{arith}
 use lib.ListN.{length, getD, take, drop, List·getD-eq-default}
 use lib.Seq.{getD-take, getD-drop, length-take-le, length-front, take-at, drop-at}
 use Rattle.numbers.specs.Room.{room}
-use Rattle.store.specs.Layout.{address}
+use Rattle.store.specs.Slots.{address, read}
 use Rattle.store.proofs.Slots.{slot-below}
 use Rattle.map.specs.Cells.{Map}
-use Rattle.picture.specs.State.{capsOf}
 use Rattle.frames.specs.Frames.{Frame}
-use Rattle.reply.specs.Replied.{Keeps, Answered, Replied}
+use Rattle.reply.specs.Replied.{Keeps, FrameAnswered, Replied}
 
 -- words that agree in the room
 keeps-alike : (a b : List ℕ) (m : Map) → Keeps a m → room 384 384 ≤ length b → ((i : ℕ) → i < room 384 384 → getD b i 0 ≡ getD a i 0) → Keeps b m
-unfolding room capsOf
+unfolding room read
 keeps-alike a b m k h same = record {
   wf = record {
     sound = k .wf .sound;
@@ -24,7 +23,7 @@ keeps-alike a b m k h same = record {
       cells = k .wf .picture .cells;
       fits = omega (arith, k .marks, k .cells);
       words = λ x e.
-          same (address (m .marks) (m .cells) x) (omega (arith, k .marks, k .cells, slot-below (m .marks) (m .cells) x e))
+          same (address (m .caps .marks) (m .caps .cells) x) (omega (arith, k .marks, k .cells, slot-below (m .caps .marks) (m .caps .cells) x e))
           ∙ k .wf .picture .words x e;
     };
   };
@@ -34,7 +33,7 @@ keeps-alike a b m k h same = record {
 }
 
 -- no word lies beyond
-pub replied-whole : (f : Frame) (w o : List ℕ) (at r : ℕ) (w′ o′ : List ℕ) → length w ≤ 15376 → length w′ ≡ length w → Answered f w o at r w′ o′
+pub replied-whole : (f : Frame) (w o : List ℕ) (at r : ℕ) (w′ o′ : List ℕ) → length w ≤ 15376 → length w′ ≡ length w → FrameAnswered f w o at r w′ o′
     → Replied f w o at r w′ o′
 unfolding room
 replied-whole f w o at r w′ o′ h e a = record {
@@ -61,7 +60,7 @@ module _ (k : ℕ) (w w′ : List ℕ) (long : k < length w) (size : length w′
       (sym (getD-drop k (w′ ++ drop k w) (i - k) 0)
       ∙ (ap (λ (l : List ℕ). getD l (i - k) 0) (drop-at w′ (drop k w) k size) ∙ getD-drop k w (i - k) 0))
 
-pub replied-cut : (f : Frame) (w o : List ℕ) (at r : ℕ) (w′ o′ : List ℕ) → 15376 < length w → length w′ ≡ length (take 15376 w) → Answered f (take 15376 w) o at r w′ o′
+pub replied-cut : (f : Frame) (w o : List ℕ) (at r : ℕ) (w′ o′ : List ℕ) → 15376 < length w → length w′ ≡ length (take 15376 w) → FrameAnswered f (take 15376 w) o at r w′ o′
     → Replied f w o at r (w′ ++ drop 15376 w) o′
 unfolding room
 replied-cut f w o at r w′ o′ h same a = let size = same ∙ length-take-le 15376 w (omega arith) in record {

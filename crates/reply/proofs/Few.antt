@@ -52,7 +52,7 @@ module _ (m : Map) (s : Sound m) (d v : ℕ) where
   pub star-few : length (star m d v) ≤ 128
   unfolding star holders
   star-few =
-      omega (arith, s .few v, select-fewer (λ c. eqb (dimensionAt m c) d && holds m v c) (holds m v) (m .cells) (λ c e. and-right (eqb (dimensionAt m c) d) (holds m v c) e))
+      omega (arith, s .few v, select-fewer (λ c. eqb (dimensionAt m c) d && holds m v c) (holds m v) (m .caps .cells) (λ c e. and-right (eqb (dimensionAt m c) d) (holds m v c) e))
 
   pub anchors-few : length (anchors m d v) ≤ 128
   unfolding cellsIn

@@ -5,24 +5,25 @@ use Prim.Native.Nat.{ℕ}
 use native.Mathlib.Omega.{arith}
 use lib.ListN.{length}
 use Rattle.words.specs.Words.{partOf}
+use Rattle.map.specs.Cells.{bodyOf}
 use Rattle.map.specs.History.{Insert, Remove}
 use Rattle.frames.specs.declared.Frame as Code
 use Rattle.frames.specs.declared.Frame.the-variants as Frame′
 use Rattle.frames.specs.Frames.{Frame, Format, Change, Star, Anchors, Sibling, Bad, frameOf}
-use Rattle.frames.specs.Forms.{carried, marksOf, Reading}
+use Rattle.frames.specs.Forms.{carried, marksCarried, Reading}
 use Rattle.frames.proofs.Told.{told, told-carried, marks-part}
 use Rattle.frames.proofs.Rows.{marks-few}
-use Rattle.reply.specs.Replied.{Answered, Obeyed}
+use Rattle.reply.specs.Replied.{FrameAnswered, Obeyed}
 
 module _ (f : Frame) (code : Code.Frame) (e : code ≡ carried f) where
   -- the frame that the code carries
-  pub told-so : told code (marksOf f) ≡ f
-  told-so = ap (λ (x : Code.Frame). told x (marksOf f)) e ∙ told-carried f
+  pub told-so : told code (marksCarried f) ≡ f
+  told-so = ap (λ (x : Code.Frame). told x (marksCarried f)) e ∙ told-carried f
 
 -- an insert carries the count of its marks
-pub insert-count : (f : Frame) (n : ℕ) {c : _} {t : ℕ} → Frame′.Insert c t n ≡ carried f → n ≡ length (marksOf f)
-unfolding carried marksOf
-insert-count (Change (Insert c t marks)) n e = cc
+pub insert-count : (f : Frame) (n : ℕ) {c : _} {t : ℕ} → Frame′.Insert c t n ≡ carried f → n ≡ length (marksCarried f)
+unfolding carried marksCarried
+insert-count (Change (Insert c x)) n e = cc
 insert-count (Format marks cells) n e = absurd (let z : _≡_ {A = ℕ} 0 1 = cc in omega arith)
 insert-count (Change (Remove c)) n e = absurd (let z : _≡_ {A = ℕ} 0 1 = cc in omega arith)
 insert-count (Star d v) n e = absurd (let z : _≡_ {A = ℕ} 0 1 = cc in omega arith)
@@ -32,19 +33,19 @@ insert-count Bad n e = absurd (let z : _≡_ {A = ℕ} 0 1 = cc in omega arith)
 
 module _ (code : Code.Frame) (marks w o : List ℕ) (at r : ℕ) (w′ o′ : List ℕ) where
   -- a frame without marks
-  pub obeyed : (is : Frame) → ((l : List ℕ) → told code l ≡ is) → Answered is w o at r w′ o′ → Obeyed code marks w o at r w′ o′
-  obeyed is same p f e m = rw (← (sym (same (marksOf f)) ∙ told-so f code e)) p
+  pub obeyed : (is : Frame) → ((l : List ℕ) → told code l ≡ is) → FrameAnswered is w o at r w′ o′ → Obeyed code marks w o at r w′ o′
+  obeyed is same p f e m = rw (← (sym (same (marksCarried f)) ∙ told-so f code e)) p
 
   pub obeyed-insert : {c : _} {t n k : ℕ} {l : List ℕ} → code ≡ Frame′.Insert c t n → l ≡ partOf marks k n → k ≡ 0
-      → Answered (Change (Insert (c .0) t l)) w o at r w′ o′ → Obeyed code marks w o at r w′ o′
+      → FrameAnswered (Change (Insert (c .0) (bodyOf t l))) w o at r w′ o′ → Obeyed code marks w o at r w′ o′
   unfolding told
   obeyed-insert {c} {t} {n} {k} {l} is part first p f e m =
-      let count : n ≡ length (marksOf f) = insert-count f n (sym is ∙ e) in
-      let list : l ≡ marksOf f = part ∙ (rw first (ap (partOf marks 0) count ∙ m)) in
-      let frame : Change (Insert (c .0) t (marksOf f)) ≡ f = ap (λ (x : Code.Frame). told x (marksOf f)) (sym is) ∙ told-so f code e in
+      let count : n ≡ length (marksCarried f) = insert-count f n (sym is ∙ e) in
+      let list : l ≡ marksCarried f = part ∙ (rw first (ap (partOf marks 0) count ∙ m)) in
+      let frame : Change (Insert (c .0) (bodyOf t (marksCarried f))) ≡ f = ap (λ (x : Code.Frame). told x (marksCarried f)) (sym is) ∙ told-so f code e in
       rw (← frame) (rw list at p)
 
-  pub obeyed-sibling : {c : _} {facet asked : ℕ} → code ≡ Frame′.Sibling c facet → asked ≡ facet → Answered (Sibling (c .0) asked) w o at r w′ o′
+  pub obeyed-sibling : {c : _} {facet asked : ℕ} → code ≡ Frame′.Sibling c facet → asked ≡ facet → FrameAnswered (Sibling (c .0) asked) w o at r w′ o′
       → Obeyed code marks w o at r w′ o′
   unfolding told
   obeyed-sibling {c} {facet} {asked} is same p =
@@ -52,6 +53,6 @@ module _ (code : Code.Frame) (marks w o : List ℕ) (at r : ℕ) (w′ o′ : Li
 
 -- a line read and obeyed
 pub line-answered : (line zeros marks w o : List ℕ) (at r : ℕ) (w′ o′ : List ℕ) (code : Code.Frame) → length zeros ≡ 14 → Reading (frameOf line) zeros code marks
-    → Obeyed code marks w o at r w′ o′ → Answered (frameOf line) w o at r w′ o′
+    → Obeyed code marks w o at r w′ o′ → FrameAnswered (frameOf line) w o at r w′ o′
 line-answered line zeros marks w o at r w′ o′ code size reading p =
     p (frameOf line) (reading .frame) (marks-part (frameOf line) reading (omega (arith, marks-few line)))

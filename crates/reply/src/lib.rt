@@ -4,9 +4,10 @@
 // `requires`. What is proved: on any memory it appends 775 bytes at most, and leaves the other places of the output and the words beyond
 // the room of 384 marks and 384 cells; on the words of a map the bytes are those of crates/frames/specs/Frames.antt, and what is left are
 // the words of the map afterwards (specs/Replied.antt). What a caller should know: the line comes without its end.
+ghost use Rattle.map.specs.Cells.{bodyOf};
 ghost use Rattle.map.specs.History.{Insert, Remove};
 ghost use Rattle.frames.specs.Frames.{frameOf, Format, Change, Star, Anchors, Sibling, Bad};
-ghost use Rattle.reply.specs.Replied.{Answered, Obeyed, Replied};
+ghost use Rattle.reply.specs.Replied.{FrameAnswered, Obeyed, Replied};
 use format::format;
 use frames::Frame;
 use frames::read;
@@ -33,7 +34,7 @@ const ROOM: usize = 15376;
 
 // A format's answer; above what is kept it is refused.
 fn reply_format(mesh: &mut [u32], marks: u32, cells: u32, out: &mut [u8], at: usize) -> usize
-    ensures { λ r. ⌜ Answered (Format marks cells) (now (mesh .entry)) (now (out .entry)) at r (now (mesh .exit)) (now (out .exit)) ⌝ }
+    ensures { λ r. ⌜ FrameAnswered (Format marks cells) (now (mesh .entry)) (now (out .entry)) at r (now (mesh .exit)) (now (out .exit)) ⌝ }
 {
     if MOST < marks {
         return write_verdict(out, at, Verdict::Refused(Refusal::CapacityAbove));
@@ -54,7 +55,7 @@ fn reply_insert(
     out: &mut [u8],
     at: usize,
 ) -> usize
-    ensures { λ r. ⌜ Answered (Change (Insert (c .0) t (now (marks .entry)))) (now (mesh .entry)) (now (out .entry)) at r (now (mesh .exit)) (now (out .exit)) ⌝ }
+    ensures { λ r. ⌜ FrameAnswered (Change (Insert (c .0) (bodyOf t (now (marks .entry))))) (now (mesh .entry)) (now (out .entry)) at r (now (mesh .exit)) (now (out .exit)) ⌝ }
 {
     let said = insert(mesh, c, t, marks);
     write_verdict(out, at, said)
@@ -62,7 +63,7 @@ fn reply_insert(
 
 // A remove's answer.
 fn reply_remove(mesh: &mut [u32], c: Cell, out: &mut [u8], at: usize) -> usize
-    ensures { λ r. ⌜ Answered (Change (Remove (c .0))) (now (mesh .entry)) (now (out .entry)) at r (now (mesh .exit)) (now (out .exit)) ⌝ }
+    ensures { λ r. ⌜ FrameAnswered (Change (Remove (c .0))) (now (mesh .entry)) (now (out .entry)) at r (now (mesh .exit)) (now (out .exit)) ⌝ }
 {
     let said = remove(mesh, c);
     write_verdict(out, at, said)
@@ -70,7 +71,7 @@ fn reply_remove(mesh: &mut [u32], c: Cell, out: &mut [u8], at: usize) -> usize
 
 // A star's answer: no star has more than 128 cells.
 fn reply_star(mesh: &[u32], d: u32, v: Mark, out: &mut [u8], at: usize) -> usize
-    ensures { λ r. ⌜ Answered (Star d (v .0)) (now (mesh .entry)) (now (out .entry)) at r (now (mesh .entry)) (now (out .exit)) ⌝ }
+    ensures { λ r. ⌜ FrameAnswered (Star d (v .0)) (now (mesh .entry)) (now (out .entry)) at r (now (mesh .entry)) (now (out .exit)) ⌝ }
 {
     let mut cells = [0u32; MOST_AROUND as usize];
     match listing::star(mesh, d, v, &mut cells) {
@@ -81,7 +82,7 @@ fn reply_star(mesh: &[u32], d: u32, v: Mark, out: &mut [u8], at: usize) -> usize
 
 // The answer to an ask for anchors: there are no more than the star has cells.
 fn reply_anchors(mesh: &[u32], d: u32, v: Mark, out: &mut [u8], at: usize) -> usize
-    ensures { λ r. ⌜ Answered (Anchors d (v .0)) (now (mesh .entry)) (now (out .entry)) at r (now (mesh .entry)) (now (out .exit)) ⌝ }
+    ensures { λ r. ⌜ FrameAnswered (Anchors d (v .0)) (now (mesh .entry)) (now (out .entry)) at r (now (mesh .entry)) (now (out .exit)) ⌝ }
 {
     let mut halves = [0u32; MOST_AROUND as usize];
     match listing::anchors(mesh, d, v, &mut halves) {
@@ -92,7 +93,7 @@ fn reply_anchors(mesh: &[u32], d: u32, v: Mark, out: &mut [u8], at: usize) -> us
 
 // A sibling's answer.
 fn reply_sibling(mesh: &[u32], c: Cell, f: u32, out: &mut [u8], at: usize) -> usize
-    ensures { λ r. ⌜ Answered (Sibling (c .0) f) (now (mesh .entry)) (now (out .entry)) at r (now (mesh .entry)) (now (out .exit)) ⌝ }
+    ensures { λ r. ⌜ FrameAnswered (Sibling (c .0) f) (now (mesh .entry)) (now (out .entry)) at r (now (mesh .entry)) (now (out .exit)) ⌝ }
 {
     match ask::sibling(mesh, c, f) {
         HalfAt::Refused(why) => write_verdict(out, at, Verdict::Refused(why)),

@@ -11,11 +11,10 @@ use lib.ListN.{getD}
 use Rattle.lists.specs.Lists.{has, any}
 use Rattle.lists.proofs.Alike.{and-false}
 use Rattle.numbers.specs.declared.Caps.{Caps}
-use Rattle.store.specs.Layout.{Slot, Head, Mark, Cell, Cold, Within}
 use Rattle.map.specs.Cells.{Map}
 use Rattle.map.specs.Siblings.{isHalf}
 use Rattle.picture.specs.State.{State, mapWith, stateOf}
-use Rattle.picture.specs.Picture.{chainOf, link, corner, linkWord, headWords, markWords, cellWords, wordOf, Pic}
+use Rattle.picture.specs.Picture.{Pic}
 use Rattle.picture.specs.Changes.{withAnc}
 use Rattle.picture.specs.Ready.{Ready, Settled}
 use Rattle.picture.proofs.Alike.{withAncs, pic-ancs, state-same}

@@ -1,6 +1,5 @@
 -- The laws of settling.
 pub mod Sibs
 pub mod Ancs
-pub mod Setting
 pub mod Mending
 pub mod Anchoring

@@ -17,13 +17,14 @@ use Rattle.picture.specs.State.{State, mapWith}
 use Rattle.picture.specs.Picture.{Pic}
 use Rattle.picture.specs.Step.{Step}
 use Rattle.picture.specs.Ready.{Ready}
-use Rattle.sibling.specs.Shared.{Asked, MayMend, mended}
-use Rattle.settle.specs.Settle.{setsOf, MaySettle}
-use Rattle.settle.specs.Sets.{setIn}
+use Rattle.sibling.specs.Shared.{SetInside, MayMend, mended}
+use Rattle.map.specs.Cells.{setsOf}
+use Rattle.settle.specs.Settle.{MaySettle}
+use Rattle.facet.specs.Facet.{setIn}
 use Rattle.settle.specs.Sibs.{Sibs}
 use Rattle.settle.specs.Mended.{Mends}
 use Rattle.settle.proofs.Sibs.{same-map, sibs-mend}
-use Rattle.settle.proofs.Setting.{set-is, set-first}
+use Rattle.facet.proofs.Sets.{set-is, set-first}
 
 -- the same step by another name of the set
 pub mend-step : (caps : Caps) (rows : List (List (List ℕ))) (w w′ set set′ : List ℕ) → set ≡ set′ → Step caps w w′ (MayMend caps rows set) (mended caps set)
@@ -45,7 +46,7 @@ module _ (caps : Caps) (rows : List (List (List ℕ))) (t : ℕ) (marks w : List
   }
 
   sets-count : length (setsOf t marks) ≡ facetCount t
-  unfolding setsOf facetCount
+  unfolding facetCount
   sets-count = length-map (shape t .facets) _
 
   pub mends-more : (w′ w″ : List ℕ) (f : ℕ) → Mends caps rows t marks w w′ (drop f (setsOf t marks)) → f < facetCount t

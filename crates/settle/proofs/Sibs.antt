@@ -22,7 +22,7 @@ use Rattle.settle.specs.Sibs.{Sibs}
 module _ (caps : Caps) (s : State) where
   pub same-map : (s′ : State) → s′ .at ≡ s .at → mapWith caps s′ ≡ mapWith caps s
   unfolding mapWith
-  same-map s′ e = ap (λ (at : ℕ → _). record { marks = caps .marks; cells = caps .cells; at = at }) e
+  same-map s′ e = ap (λ (at : ℕ → _). record { caps = caps; at = at }) e
 
   -- the next in a set is the sibling
   after-right : (set : List ℕ) (h : ℕ) → has h (sharers (mapWith caps s) set) ≡ true

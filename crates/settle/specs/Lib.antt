@@ -1,5 +1,4 @@
 pub mod Settle
-pub mod Sets
 pub mod Sibs
 pub mod Mended
 pub mod Ancs

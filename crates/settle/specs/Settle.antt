@@ -1,21 +1,17 @@
 -- After a cell has come or gone, what is around it is settled: the siblings of its facets' sets, the first anchors of its marks.
 use mathlib.Core.Path.{_≡_}
 use mathlib.Core.Bool.{Bool, true, false, _&&_}
-use mathlib.Core.List.{List, map}
+use mathlib.Core.List.{List}
 use Prim.Native.Nat.{ℕ, _<_, _≤_}
-use lib.ListN.{getD, length}
+use lib.ListN.{length}
 use Rattle.lists.specs.Lists.{has, any, sameSet}
 use Rattle.shapes.specs.Shapes.{shape}
 use Rattle.shapes.specs.Table.{table}
 use Rattle.numbers.specs.declared.Caps.{Caps}
-use Rattle.map.specs.Cells.{Map}
+use Rattle.map.specs.Cells.{Map, setsOf}
 use Rattle.map.specs.Siblings.{isHalf, marksOf}
 use Rattle.picture.specs.State.{State, mapWith, stateOf}
 use Rattle.picture.specs.Ready.{Ready}
-
--- the sets of marks of the facets of a type on these marks
-unfoldable pub setsOf : ℕ → List ℕ → List (List ℕ)
-setsOf t marks = map (map (λ (place : ℕ). getD marks place 0)) (shape t .facets)
 
 -- the half-facet is live and has one of the sets
 unfoldable pub among : Map → List (List ℕ) → ℕ → Bool

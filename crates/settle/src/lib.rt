@@ -3,58 +3,31 @@
 // What is here: `settle` mends the siblings of the sets of the cell's facets and puts the first anchors of its marks. It is total on any
 // memory. What is proved: nothing beyond the room changes; on the picture of a state that may settle (specs/Settle.antt) all siblings and
 // all first anchors are right afterwards. What a caller should know: the cell is given by its type and marks, for it may be gone.
-ghost use mathlib.Core.Path.{_≡_};
 ghost use mathlib.Core.List.{[]};
-ghost use Prim.Native.Nat.{min};
-ghost use Rattle.lists.specs.Filled.{Copied};
 ghost use Rattle.picture.specs.Step.{Step};
 ghost use Rattle.sibling.specs.Shared.{MayMend, mended};
-ghost use Rattle.settle.specs.Sets.{setIn};
+ghost use Rattle.facet.specs.Facet.{setIn};
 ghost use Rattle.settle.specs.Mended.{Mends};
 ghost use Rattle.settle.specs.Ancs.{Anchors, threeAncs};
 ghost use Rattle.settle.specs.Settle.{MaySettle, settled};
 ghost use Rattle.group.specs.Group.{Around};
+use facet::facet_set;
 use group::first_anchor_of;
 use numbers::Caps;
+use numbers::Mark;
 use picture::put_anchor;
 use shapes::FacetTable;
-use shapes::column;
+use shapes::MOST_CORNERS;
 use shapes::facet_count;
 use sibling::mend;
 use words::part;
-use words::put;
 use words::word;
-
-// A facet has four corners at most.
-fn four_at_most(n: u32) -> u32
-    ensures { λ r. ⌜ r ≡ min 4 n ⌝ }
-{
-    if 4 < n { 4 } else { n }
-}
-
-// The set of marks of a facet of the type, written to the first places of out; how many there are.
-fn facet_set(rows: &FacetTable, t: u32, f: u32, marks: &[u32], out: &mut [u32]) -> u32
-    ensures { λ r. ⌜ Copied (setIn (now (rows .entry)) t f (now (marks .entry))) (now (out .entry)) r (now (out .exit)) ⌝ }
-{
-    let n = four_at_most(column(rows, t, f, 0));
-    let mut k: u32 = 0;
-    while k < n {
-        let next = k + 1;
-        put(
-            out,
-            k as usize,
-            word(marks, column(rows, t, f, next) as usize),
-        );
-        k = next;
-    }
-    n
-}
 
 // One facet's set mended.
 fn mend_facet(w: &mut [u32], caps: Caps, rows: &FacetTable, t: u32, f: u32, marks: &[u32])
     ensures { λ _. ⌜ Step caps (now (w .entry)) (now (w .exit)) (MayMend caps (now (rows .entry)) (setIn (now (rows .entry)) t f (now (marks .entry)))) (mended caps (setIn (now (rows .entry)) t f (now (marks .entry)))) ⌝ }
 {
-    let mut set = [0u32; 4];
+    let mut set = [0u32; MOST_CORNERS as usize];
     let n = facet_set(rows, t, f, marks, &mut set);
     mend(w, caps, rows, part(&set, 0, n as usize));
 }
@@ -72,8 +45,8 @@ pub fn mend_all(w: &mut [u32], caps: Caps, rows: &FacetTable, t: u32, marks: &[u
 }
 
 // The first anchors of one mark, in each dimension.
-fn anchor_mark(w: &mut [u32], caps: Caps, rows: &FacetTable, v: u32)
-    ensures { λ _. ⌜ Step caps (now (w .entry)) (now (w .exit)) (Around caps (now (rows .entry)) v) (λ s. threeAncs caps s s v) ⌝ }
+fn anchor_mark(w: &mut [u32], caps: Caps, rows: &FacetTable, v: Mark)
+    ensures { λ _. ⌜ Step caps (now (w .entry)) (now (w .exit)) (Around caps (now (rows .entry)) (v .0)) (λ s. threeAncs caps s s (v .0)) ⌝ }
 {
     let bars = first_anchor_of(w, caps, rows, 1, v);
     let faces = first_anchor_of(w, caps, rows, 2, v);
@@ -89,7 +62,7 @@ pub fn anchor_all(w: &mut [u32], caps: Caps, rows: &FacetTable, marks: &[u32])
 {
     let mut i: usize = 0;
     while i < marks.len() {
-        anchor_mark(w, caps, rows, word(marks, i));
+        anchor_mark(w, caps, rows, Mark(word(marks, i)));
         i += 1;
     }
 }

@@ -40,6 +40,7 @@ tests s =
     ∷ allBelow (length (s .facets)) (sized s)
     ∷ allBelow (s .marks) (cornered s)
     ∷ allBelow (length (s .facets)) (λ f. allBelow (length (s .facets)) (apart s f))
+    ∷ allBelow (length (s .facets)) (λ f. ltb 0 (length (facetAt s f)))
     ∷ []
 
 test : Shape → Bool
@@ -58,6 +59,7 @@ unfolding test tests facetTest facetTests sized cornered apart all repeats
 of-test s e = record {
   facets = leb-true _ _ (passed 0 (omega arith));
   corners = λ f. leb-true _ _ (facet f 0 (omega arith));
+  some = λ f h. ltb-true _ _ (below-at (length (s .facets)) (λ f. ltb 0 (length (facetAt s f))) (passed 6 (omega arith)) f h);
   marks = leb-true _ _ (passed 1 (omega arith));
   inside = λ f k h. ltb-true _ _ (all-at (λ p. ltb p (s .marks)) (facetAt s f) 0 k (facet f 1 (omega arith)) h);
   distinct = λ f. not-true _ (facet f 2 (omega arith));
@@ -71,7 +73,7 @@ of-test s e = record {
       (below-at (length (s .facets)) (λ f. allBelow (length (s .facets)) (apart s f)) (passed 5 (omega arith)) f hf) g hg));
 }
   where
-    passed : (k : ℕ) → k < 6 → getD (tests s) k true ≡ true
+    passed : (k : ℕ) → k < 7 → getD (tests s) k true ≡ true
     passed k h = all-at (λ b. b) (tests s) true k e h
 
     facet : (f k : ℕ) → k < 3 → getD (facetTests (s .marks) (facetAt s f)) k true ≡ true

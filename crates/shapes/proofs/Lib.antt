@@ -2,4 +2,4 @@
 pub mod Read
 pub mod Facts
 pub mod Padded
-pub mod Today
+pub mod Types

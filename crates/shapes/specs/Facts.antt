@@ -6,6 +6,7 @@ use Prim.Native.Nat.{ℕ, _<_, _≤_}
 use lib.ListN.{getD, length}
 use Rattle.lists.specs.Lists.{has, any, repeats, sameSet}
 use Rattle.shapes.specs.Shapes.{Shape}
+use Rattle.shapes.specs.Sizes.{mostMarks, mostFacets, mostCorners}
 
 -- the dimension of the cells whose facets have so many corners
 unfoldable pub dimensionOf : ℕ → ℕ
@@ -16,9 +17,11 @@ facetAt s f = getD (s .facets) f []
 
 pub record Facts (s : Shape) : Type 0 where
   -- at most six facets of at most four corners, at most eight marks
-  pub facets : length (s .facets) ≤ 6
-  pub corners : (f : ℕ) → length (facetAt s f) ≤ 4
-  pub marks : s .marks ≤ 8
+  pub facets : length (s .facets) ≤ mostFacets
+  pub corners : (f : ℕ) → length (facetAt s f) ≤ mostCorners
+  -- each facet has a corner
+  pub some : (f : ℕ) → f < length (s .facets) → 0 < length (facetAt s f)
+  pub marks : s .marks ≤ mostMarks
   -- each place of a facet is a place of the type's marks
   pub inside : (f k : ℕ) → k < length (facetAt s f) → getD (facetAt s f) k 0 < s .marks
   -- a facet's places are distinct

@@ -1,10 +1,9 @@
 // The types of cells as a table of tables: dimension, marks and facets of each type.
 //
-// What is here: `facet_table` gives the table, `corner_count` and `corner_place` read it; `dimension`,
-// `mark_count` and `facet_count` tell of a type. All are total: a code, a facet or a corner outside the
-// table reads as 0. What is proved: each answer is that of specs/Shapes.antt, and proofs/Facts.antt has
-// the facts of all facets, shown once over the whole table. What a caller should know: a table is
-// copied at each use of the constant, so take it once a call and hand the copy down.
+// What is here: `facet_table` gives the table, `column` reads it; `dimension`, `mark_count` and `facet_count` tell of a type. All are
+// total: a code, a facet or a corner outside the table reads as 0. What is proved: each answer is that of specs/Shapes.antt, and
+// proofs/Facts.antt has the facts of all facets, shown once over the whole table. What a caller should know: a table is copied at each
+// use of the constant, so take it once a call and hand the copy down.
 ghost use mathlib.Core.Path.{_≡_};
 ghost use Prim.Native.Nat.{_+_};
 ghost use Rattle.shapes.specs.Shapes.{shape, facetCount};
@@ -12,6 +11,9 @@ ghost use Rattle.shapes.specs.Table.{table, entry};
 
 // How many codes the table has, 0 for no type among them.
 pub const CODES: u32 = 5;
+
+// No type has a higher code.
+pub const MOST_CODE: u32 = 7;
 
 // No type has more marks, or more facets; no facet has more corners.
 pub const MOST_MARKS: u32 = 8;

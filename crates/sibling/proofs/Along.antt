@@ -29,10 +29,11 @@ use Rattle.laws.proofs.Local.{half-inside}
 use Rattle.picture.specs.State.{State, mapWith}
 use Rattle.picture.specs.Picture.{chainOf}
 use Rattle.picture.specs.Ready.{Ready}
-use Rattle.sibling.specs.Shared.{Asked}
-use Rattle.sibling.specs.Halves.{matchAt, halvesOf}
-use Rattle.sibling.proofs.Mapped.{map-ascends}
-use Rattle.sibling.proofs.OnPicture.{one-match}
+use Rattle.sibling.specs.Shared.{SetInside}
+use Rattle.facet.specs.Facet.{matchAt}
+use Rattle.sibling.specs.Halves.{halvesOf}
+use Rattle.lists.proofs.Mapped.{map-ascends}
+use Rattle.laws.proofs.Facets.{one-match}
 
 module _ (m : Map) (set : List ℕ) where
   -- a match is a facet of the cell with the set of marks
@@ -62,8 +63,8 @@ halves-ascend match cells a =
     omega arith)
 
 -- cells of the map, among them all that hold the first mark of the set
-module _ (m : Map) (o : Sound m) (set cells : List ℕ) (some : 0 < length set) (within : (c : ℕ) → has c cells ≡ true → c < m .cells)
-    (full : (c : ℕ) → c < m .cells → holds m (getD set 0 0) c ≡ true → has c cells ≡ true) where
+module _ (m : Map) (o : Sound m) (set cells : List ℕ) (some : 0 < length set) (within : (c : ℕ) → has c cells ≡ true → c < m .caps .cells)
+    (full : (c : ℕ) → c < m .caps .cells → holds m (getD set 0 0) c ≡ true → has c cells ≡ true) where
   -- none is missing
   along-has : (h : ℕ) → has h (sharers m set) ≡ true → has h (halvesOf (matchAt m set) cells) ≡ true
   unfolding halvesOf isHalf marksOf
@@ -72,7 +73,7 @@ module _ (m : Map) (o : Sound m) (set cells : List ℕ) (some : 0 < length set) 
       let c : ℕ = h / 8 in
       let match : matchAt m set c ≡ h % 8 = is-match m set o c (h % 8) (ltb-true _ _ (x .0 .facet)) (x .1) in
       let mark : has (getD set 0 0) (marksOf m h) ≡ true = sym (same-has set (marksOf m h) (x .1) (getD set 0 0)) ∙ at-has set 0 some in
-      let below : c < m .cells = omega (arith, x .0 .below) in
+      let below : c < m .caps .cells = omega (arith, x .0 .below) in
       let there : has c cells ≡ true = full c below (half-inside m (o .fitting) h (getD set 0 0) mark) in
       let kept : has c (keep (λ c. ltb (matchAt m set c) 8) cells) ≡ true =
       keep-in (λ c. ltb (matchAt m set c) 8) cells c (lt-ltb (matchAt m set c) 8 (omega arith)) there in
@@ -90,7 +91,7 @@ module _ (m : Map) (o : Sound m) (set cells : List ℕ) (some : 0 < length set) 
       let small : matchAt m set c < 8 = ltb-true _ _ (out .0) in
       let x = match-is m set c small in
       let half = half-facet m c (matchAt m set c) (x .0) in
-      let below : c < m .cells = within c (out .1) in
+      let below : c < m .caps .cells = within c (out .1) in
       rw (r .2) at (has-sharers m set (8 * c + matchAt m set c)
       (record { below = omega arith; facet = half .1 }) (rw (half .2) (x .1)))
 
@@ -99,7 +100,7 @@ module _ (m : Map) (o : Sound m) (set cells : List ℕ) (some : 0 < length set) 
       asc-same _ _ (sharers-ascend m set) (halves-ascend (matchAt m set) cells a) (λ h. same-test _ _ (along-has h) (has-along h))
 
 -- so along the chain of the first mark
-pub sharers-along : (caps : Caps) (rows : List (List (List ℕ))) (set : List ℕ) (s : State) → Ready caps s → Asked caps rows set
+pub sharers-along : (caps : Caps) (rows : List (List (List ℕ))) (set : List ℕ) (s : State) → Ready caps s → SetInside caps rows set
     → sharers (mapWith caps s) set ≡ halvesOf (matchAt (mapWith caps s) set) (chainOf caps s (getD set 0 0))
 unfolding chainOf mapWith
 sharers-along caps rows set s r q =

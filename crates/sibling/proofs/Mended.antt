@@ -10,7 +10,7 @@ use borrow.Author.Tests.{ltb-true, eqb-true}
 use lib.Dec.{eqb}
 use lib.ListN.{getD, length, take, drop, List·getD-append}
 use lib.Seq.{take-suc, take-all, getD-append-add}
-use Rattle.shapes.proofs.Today.{four-facets}
+use Rattle.shapes.proofs.Facts.{facts}
 use Rattle.lists.specs.Lists.{has, after}
 use Rattle.lists.specs.Ascending.{Ascending}
 use Rattle.lists.specs.Filled.{Copied}
@@ -25,7 +25,7 @@ use Rattle.picture.specs.State.{State, mapWith}
 use Rattle.picture.specs.Changes.{withSib}
 use Rattle.picture.specs.Step.{Step}
 use Rattle.sibling.specs.Shared.{Shared, MayMend, mended}
-use Rattle.sibling.proofs.OnPicture.{facets-count}
+use Rattle.laws.proofs.Facets.{facets-count}
 
 -- the first i half-facets of a list lead to the next of it
 unfoldable pub ledTo : List ℕ → ℕ → State → State
@@ -80,13 +80,13 @@ listed-at l o n o′ c h i k =
 
 -- a half-facet that shares the set has a sibling's word
 pub sharer-word : (caps : Caps) (s : State) (set : List ℕ) (h : ℕ) → has h (sharers (mapWith caps s) set) ≡ true
-    → (h / 8 < caps .cells) × (h % 8 < 4)
+    → (h / 8 < caps .cells) × (h % 8 < 6)
 unfolding mapWith isHalf
 sharer-word caps s set h e =
     let x = sharers-has (mapWith caps s) set h e in (
       omega (arith, x .0 .below),
       omega
-          (arith, ltb-true (h % 8) (length (facetsAt (mapWith caps s) (h / 8))) (x .0 .facet), facets-count (mapWith caps s) (h / 8), four-facets (mapWith caps s .at (h / 8) .code)),
+          (arith, ltb-true (h % 8) (length (facetsAt (mapWith caps s) (h / 8))) (x .0 .facet), facets-count (mapWith caps s) (h / 8), facts (mapWith caps s .at (h / 8) .code) .facets),
     )
 
 -- the sharers of a set, the first i of them mended
@@ -99,7 +99,7 @@ module _ (caps : Caps) (rows : List (List (List ℕ))) (set w : List ℕ) where
 
   pub mend-more : (o halves : List ℕ) (n i to h x : ℕ) (w′ w″ : List ℕ) → Shared w caps rows set o n halves → length o ≡ 128
       → Step caps w w′ (MayMend caps rows set) (mendedTo caps set i) → i < n → NextAt n i to → h ≡ getD halves i 0 → x ≡ getD halves to 0
-      → Step caps w′ w″ (λ s. (h / 8 < caps .cells) × (h % 8 < 4)) (λ s. withSib s h x)
+      → Step caps w′ w″ (λ s. (h / 8 < caps .cells) × (h % 8 < 6)) (λ s. withSib s h x)
       → Step caps w w″ (MayMend caps rows set) (mendedTo caps set (i + 1))
   mend-more o halves n i to h x w′ w″ shared size was less place eh ex put = record {
     inside = only-then (was .inside) (put .inside);

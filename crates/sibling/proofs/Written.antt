@@ -24,11 +24,12 @@ use Rattle.picture.specs.Picture.{Pic, chainOf}
 use Rattle.picture.specs.Ready.{Ready}
 use Rattle.chain.specs.Chain.{Gathered}
 use Rattle.facet.specs.Facet.{matchIn}
-use Rattle.sibling.specs.Shared.{Shared, Asked}
-use Rattle.sibling.specs.Halves.{matchAt, halvesOf, halvesCut}
-use Rattle.sibling.proofs.Mapped.{map-same, keep-end}
+use Rattle.sibling.specs.Shared.{Shared, SetInside}
+use Rattle.facet.specs.Facet.{matchAt}
+use Rattle.sibling.specs.Halves.{halvesOf, halvesCut}
+use Rattle.lists.proofs.Mapped.{map-same, keep-end}
 use Rattle.chain.proofs.Readied.{ready-linked}
-use Rattle.sibling.proofs.OnPicture.{match-read}
+use Rattle.facet.proofs.Read.{match-read}
 use Rattle.sibling.proofs.Along.{sharers-along}
 
 module _ (match : ℕ → ℕ) (cells o : List ℕ) where
@@ -75,8 +76,8 @@ halves-uncut match match′ cells f =
 pub shared-list : (w : List ℕ) (caps : Caps) (rows : List (List (List ℕ))) (set zeros cells o : List ℕ) (v count n : ℕ) (o′ : List ℕ)
     → v ≡ getD set 0 0 → Gathered w caps v zeros count cells → count ≤ length zeros
     → Copied (halvesCut (λ c. matchIn w caps rows c set) (take count cells)) o n o′
-    → (s : State) → Pic w caps s → Ready caps s → Asked caps rows set → Copied (sharers (mapWith caps s) set) o n o′
-unfolding chainOf
+    → (s : State) → Pic w caps s → Ready caps s → SetInside caps rows set → Copied (sharers (mapWith caps s) set) o n o′
+unfolding chainOf mapWith
 shared-list w caps rows set zeros cells o v count n o′ e g h was s p r q =
     let list = g .list s p (ready-linked caps s r) (rw e (q .mark)) in
     let front : take count cells ≡ chainOf caps s v = rw (list .1 h) (take-at _ _ count (sym (list .0))) in
@@ -85,7 +86,7 @@ shared-list w caps rows set zeros cells o v count n o′ e g h was s p r q =
     (halves-uncut _ (matchAt (mapWith caps s) set) _
     (λ c there.
     let below : c < caps .cells = select-out (s .chain v) (caps .cells) c there .0 in
-    (omega (arith, p .cells), rw (q .types) (match-read w caps s p c below set)))
+    (omega (arith, p .cells), rw (q .types) (match-read w caps s p c below (r .sound .fitting c) set)))
     ∙ rw e (sym (sharers-along caps rows set s r q))) in
     rw along at was
 

@@ -7,10 +7,6 @@ use Rattle.lists.specs.Lists.{sameSet, select, first, keep}
 use Rattle.numbers.specs.Half.{halfOf}
 use Rattle.map.specs.Cells.{Map, facetsAt}
 
--- the first facet of the cell with this set of marks; 8 where there is none
-unfoldable pub matchAt : Map → List ℕ → ℕ → ℕ
-matchAt m set c = first 8 (select (λ f. sameSet set (getD (facetsAt m c) f [])) (length (facetsAt m c)))
-
 -- for each cell in order its half-facet by the match; none where there is no match
 unfoldable pub halvesOf : (ℕ → ℕ) → List ℕ → List ℕ
 halvesOf match cells = map (λ c. halfOf c (match c)) (keep (λ c. ltb (match c) 8) cells)

@@ -15,7 +15,7 @@ use Rattle.picture.specs.Ready.{Ready}
 use Rattle.numbers.specs.Sizes.{mostAround}
 
 -- the table is the table of types, and the set has a first mark of the mesh
-pub record Asked (caps : Caps) (rows : List (List (List ℕ))) (set : List ℕ) : Type 0 where
+pub record SetInside (caps : Caps) (rows : List (List (List ℕ))) (set : List ℕ) : Type 0 where
   pub types : rows ≡ table
   pub some : 0 < length set
   pub mark : getD set 0 0 < caps .marks
@@ -24,7 +24,7 @@ pub record Asked (caps : Caps) (rows : List (List (List ℕ))) (set : List ℕ) 
 pub record Shared (w : List ℕ) (caps : Caps) (rows : List (List (List ℕ))) (set o : List ℕ) (r : ℕ) (o′ : List ℕ) : Type 0 where
   pub few : r ≤ mostAround
   pub size : length o′ ≡ length o
-  pub list : (s : State) → Pic w caps s → Ready caps s → Asked caps rows set → Copied (sharers (mapWith caps s) set) o r o′
+  pub list : (s : State) → Pic w caps s → Ready caps s → SetInside caps rows set → Copied (sharers (mapWith caps s) set) o r o′
 
 -- the siblings of a set: each of its half-facets leads to the next
 unfoldable pub mended : Caps → List ℕ → State → State
@@ -38,4 +38,4 @@ mended caps set s = record {
 
 pub record MayMend (caps : Caps) (rows : List (List (List ℕ))) (set : List ℕ) (s : State) : Type 0 where
   pub ready : Ready caps s
-  pub asked : Asked caps rows set
+  pub asked : SetInside caps rows set

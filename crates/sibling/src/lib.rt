@@ -1,13 +1,11 @@
 // The half-facets with one set of marks, and their siblings.
 //
-// What is here: `sharers` lists the half-facets with a set of marks, `facet_sharers` those with the marks of a facet, `put_sibling` writes one sibling, `mend` makes each of a set lead
-// to the next. All are total on any memory. What is proved: on the picture of a state whose cells make a sound map and whose chains
-// are right, the list is that of the definitions and the siblings are left as specs/Shared.antt says; on any memory nothing beyond
-// the room changes. What a caller should know: the set's first mark leads to its cells, so it must be a mark of the mesh; the table is
-// handed down, so that it is copied once a call; 128 words hold any answer.
-ghost use Prim.Native.Nat.{_/_, _%_, _<_};
+// What is here: `sharers` lists the half-facets with a set of marks, `facet_sharers` those with the marks of a facet, `mend` makes each
+// of a set lead to the next. All are total on any memory. What is proved: on the picture of a state whose cells make a sound map and
+// whose chains are right, the list is that of the definitions and the siblings are left as specs/Shared.antt says; on any memory nothing
+// beyond the room changes. What a caller should know: the set's first mark leads to its cells, so it must be a mark of the mesh; the
+// table is handed down, so that it is copied once a call; 128 words hold any answer.
 ghost use Rattle.picture.specs.Step.{Step};
-ghost use Rattle.picture.specs.Changes.{withSib};
 ghost use Rattle.facet.specs.Facet.{facetIn};
 ghost use Rattle.sibling.specs.Shared.{Shared, MayMend, mended};
 use chain::gather;
@@ -15,10 +13,13 @@ use facet::copy_facet;
 use facet::matching;
 use numbers::Caps;
 use numbers::Cell;
+use numbers::Half;
 use numbers::MOST_AROUND;
+use numbers::Mark;
 use numbers::half_of;
+use picture::put_sibling;
 use shapes::FacetTable;
-use store::put_cell;
+use shapes::MOST_CORNERS;
 use words::part;
 use words::put;
 use words::word;
@@ -28,14 +29,14 @@ pub fn sharers(w: &[u32], caps: Caps, rows: &FacetTable, set: &[u32], out: &mut 
     ensures { λ r. ⌜ Shared (now (w .entry)) caps (now (rows .entry)) (now (set .entry)) (now (out .entry)) r (now (out .exit)) ⌝ }
 {
     let mut cells = [0u32; MOST_AROUND as usize];
-    let count = gather(w, caps, word(set, 0), &mut cells);
+    let count = gather(w, caps, Mark(word(set, 0)), &mut cells);
     let mut n: u32 = 0;
     let mut i: u32 = 0;
     while i < count {
-        let c = word(&cells, i as usize);
+        let c = Cell(word(&cells, i as usize));
         let f = matching(w, caps, rows, c, set);
         if f < 8 {
-            let half = half_of(Cell(c), f);
+            let half = half_of(c, f);
             put(out, n as usize, half.0);
             n += 1;
         }
@@ -49,25 +50,15 @@ pub fn facet_sharers(
     w: &[u32],
     caps: Caps,
     rows: &FacetTable,
-    c: u32,
+    c: Cell,
     f: u32,
     out: &mut [u32],
 ) -> u32
-    ensures { λ r. ⌜ Shared (now (w .entry)) caps (now (rows .entry)) (facetIn (now (w .entry)) caps (now (rows .entry)) c f) (now (out .entry)) r (now (out .exit)) ⌝ }
+    ensures { λ r. ⌜ Shared (now (w .entry)) caps (now (rows .entry)) (facetIn (now (w .entry)) caps (now (rows .entry)) (c .0) f) (now (out .entry)) r (now (out .exit)) ⌝ }
 {
-    let mut marks = [0u32; 4];
+    let mut marks = [0u32; MOST_CORNERS as usize];
     let n = copy_facet(w, caps, rows, c, f, &mut marks);
     sharers(w, caps, rows, part(&marks, 0, n as usize), out)
-}
-
-// The sibling of a half-facet, written.
-pub fn put_sibling(w: &mut [u32], caps: Caps, h: u32, x: u32)
-    ensures { λ _. ⌜ Step caps (now (w .entry)) (now (w .exit)) (λ s. (h / 8 < caps .cells) × (h % 8 < 4)) (λ s. withSib s h x) ⌝ }
-{
-    if 4 <= h % 8 {
-        return;
-    }
-    put_cell(w, caps, h / 8, 5 + h % 8, x);
 }
 
 // Each half-facet with this set of marks leads to the next, and the last to the first.
@@ -80,8 +71,8 @@ pub fn mend(w: &mut [u32], caps: Caps, rows: &FacetTable, set: &[u32])
     while i < n {
         let next = i + 1;
         let to = if next < n { next } else { 0 };
-        let half = word(&halves, i as usize);
-        let after = word(&halves, to as usize);
+        let half = Half(word(&halves, i as usize));
+        let after = Half(word(&halves, to as usize));
         put_sibling(w, caps, half, after);
         i = next;
     }

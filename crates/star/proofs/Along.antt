@@ -18,13 +18,14 @@ use Rattle.lists.proofs.Order.{keep-select}
 use Rattle.lists.proofs.Select.{select-out, select-same}
 use Rattle.shapes.specs.Shapes.{shape}
 use Rattle.numbers.specs.declared.Caps.{Caps}
-use Rattle.store.specs.Layout.{cellAt, Cell, address}
+use Rattle.store.specs.Slots.{codeIn}
 use Rattle.map.specs.Cells.{Map, holds, dimensionAt}
 use Rattle.map.specs.Stars.{holders, star}
 use Rattle.map.specs.Sound.{Sound}
 use Rattle.picture.specs.State.{State, mapWith}
-use Rattle.picture.specs.Picture.{Pic, wordOf, cellWords, chainOf}
+use Rattle.picture.specs.Picture.{Pic, chainOf}
 use Rattle.picture.specs.Ready.{Ready}
+use Rattle.picture.proofs.Record.{code-read}
 use Rattle.chain.specs.Chain.{Linked, Gathered}
 use Rattle.chain.proofs.Readied.{chain-holders, ready-linked}
 use Rattle.star.specs.Along.{kept}
@@ -32,14 +33,14 @@ use Rattle.star.specs.Listed.{Gives, AtMark}
 
 module _ (w : List ℕ) (caps : Caps) (d : ℕ) (cells o : List ℕ) where
   test : ℕ → Bool
-  test c = eqb (shape (getD w (cellAt (caps .marks) c + 0) 0) .dimension) d
+  test c = eqb (shape (codeIn w caps c) .dimension) d
 
   pub kept-start : Copied (kept w caps d cells 0) o 0 o
   unfolding kept keep listOf
   kept-start = record { count = refl; filled = fill-start o }
 
   pub kept-yes : (i k c t e : ℕ) (o′ o″ : List ℕ) → Copied (kept w caps d cells i) o k o′ → c ≡ getD cells i 0
-      → t ≡ getD w (cellAt (caps .marks) c + 0) 0 → e ≡ shape t .dimension → e ≡ d → o″ ≡ set o′ k c
+      → t ≡ codeIn w caps c → e ≡ shape t .dimension → e ≡ d → o″ ≡ set o′ k c
       → Copied (kept w caps d cells (i + 1)) o (k + 1) o″
   unfolding kept listOf test
   kept-yes i k c t e o′ o″ f hc ht he hd q =
@@ -47,7 +48,7 @@ module _ (w : List ℕ) (caps : Caps) (d : ℕ) (cells o : List ℕ) where
       rw (add-one i, keep-yes test (listOf i (λ i. getD cells i 0)) (getD cells i 0) yes, ← hc) (copy-more (kept w caps d cells i) o o′ o″ k c f q)
 
   pub kept-no : (i k c t e : ℕ) (o′ : List ℕ) → Copied (kept w caps d cells i) o k o′ → c ≡ getD cells i 0
-      → t ≡ getD w (cellAt (caps .marks) c + 0) 0 → e ≡ shape t .dimension → (e ≡ d → ⊥)
+      → t ≡ codeIn w caps c → e ≡ shape t .dimension → (e ≡ d → ⊥)
       → Copied (kept w caps d cells (i + 1)) o k o′
   unfolding kept listOf test
   kept-no i k c t e o′ f hc ht he hd =
@@ -63,24 +64,18 @@ unfolding kept
 kept-most w caps d cells n =
     omega (
       arith,
-      keep-size (λ c. eqb (shape (getD w (cellAt (caps .marks) c + 0) 0) .dimension) d) (listOf n (λ i. getD cells i 0)),
+      keep-size (λ c. eqb (shape (codeIn w caps c) .dimension) d) (listOf n (λ i. getD cells i 0)),
       length-listOf n (λ i. getD cells i 0),
     )
-
--- the code of a cell of the mesh, as its record has it
-pub code-word : (w : List ℕ) (caps : Caps) (s : State) → Pic w caps s → (c : ℕ) → c < caps .cells
-    → getD w (cellAt (caps .marks) c + 0) 0 ≡ s .at c .code
-unfolding address wordOf cellWords
-code-word w caps s p c h = p .words (Cell c 0) (h, omega arith)
 
 -- the star is the holders of that dimension
 pub star-holders : (m : Map) (d v : ℕ) → keep (λ c. eqb (dimensionAt m c) d) (holders m v) ≡ star m d v
 unfolding star holders
-star-holders m d v = keep-select (holds m v) (λ c. eqb (dimensionAt m c) d) (m .cells)
+star-holders m d v = keep-select (holds m v) (λ c. eqb (dimensionAt m c) d) (m .caps .cells)
 
-holder-below : (m : Map) (v c : ℕ) → has c (holders m v) ≡ true → c < m .cells
+holder-below : (m : Map) (v c : ℕ) → has c (holders m v) ≡ true → c < m .caps .cells
 unfolding holders
-holder-below m v c e = select-out (holds m v) (m .cells) c e .0
+holder-below m v c e = select-out (holds m v) (m .caps .cells) c e .0
 
 module _ (w : List ℕ) (caps : Caps) (d v : ℕ) (zeros cells o o′ : List ℕ) (n r : ℕ) where
   -- along the chain of a mark, the cells of a dimension are the star
@@ -92,8 +87,8 @@ module _ (w : List ℕ) (caps : Caps) (d v : ℕ) (zeros cells o o′ : List ℕ
       let first : take n cells ≡ chainOf caps s v =
       rw (l .1 (omega (arith, g .few)), l .0) (take-append-seam (chainOf caps s v) (drop (length (chainOf caps s v)) zeros)) in
       rw (listOf-take cells n (omega (arith, g .few, g .size)), first, chain-holders caps s (a .ready) v)
-      (keep-same (λ c. eqb (shape (getD w (cellAt (caps .marks) c + 0) 0) .dimension) d) (λ c. eqb (dimensionAt (mapWith caps s) c) d)
-      (holders (mapWith caps s) v) (λ c e. ap (λ (t : ℕ). eqb (shape t .dimension) d) (code-word w caps s p c (held c e)))
+      (keep-same (λ c. eqb (shape (codeIn w caps c) .dimension) d) (λ c. eqb (dimensionAt (mapWith caps s) c) d)
+      (holders (mapWith caps s) v) (λ c e. ap (λ (t : ℕ). eqb (shape t .dimension) d) (code-read w caps s p c (held c e)))
       ∙ star-holders (mapWith caps s) d v)
     where
       held : (c : ℕ) → has c (holders (mapWith caps s) v) ≡ true → c < caps .cells

@@ -6,8 +6,8 @@ use lib.ListN.{getD}
 use Rattle.lists.specs.Lists.{keep, listOf}
 use Rattle.shapes.specs.Shapes.{shape}
 use Rattle.numbers.specs.declared.Caps.{Caps}
-use Rattle.store.specs.Layout.{cellAt}
+use Rattle.store.specs.Slots.{codeIn}
 
 -- of the first n of a list of cells, those of the dimension, by the records
 unfoldable pub kept : List ℕ → Caps → ℕ → List ℕ → ℕ → List ℕ
-kept w caps d cells n = keep (λ c. eqb (shape (getD w (cellAt (caps .marks) c + 0) 0) .dimension) d) (listOf n (λ i. getD cells i 0))
+kept w caps d cells n = keep (λ c. eqb (shape (codeIn w caps c) .dimension) d) (listOf n (λ i. getD cells i 0))

@@ -11,9 +11,11 @@ ghost use lib.ListN.{take};
 ghost use Rattle.numbers.specs.Sizes.{mostAround};
 use chain::gather;
 use numbers::Caps;
+use numbers::Cell;
 use numbers::MOST_AROUND;
+use numbers::Mark;
 use shapes::dimension;
-use store::cell_word;
+use store::code_of;
 use words::put;
 use words::word;
 
@@ -24,9 +26,9 @@ fn keep_dimension(w: &[u32], caps: Caps, d: u32, cells: &[u32], n: u32, out: &mu
     let mut k: u32 = 0;
     let mut i: u32 = 0;
     while i < n {
-        let c = word(cells, i as usize);
-        if dimension(cell_word(w, caps, c, 0)) == d {
-            put(out, k as usize, c);
+        let c = Cell(word(cells, i as usize));
+        if dimension(code_of(w, caps, c)) == d {
+            put(out, k as usize, c.0);
             k += 1;
         }
         i += 1;
@@ -35,8 +37,8 @@ fn keep_dimension(w: &[u32], caps: Caps, d: u32, cells: &[u32], n: u32, out: &mu
 }
 
 // The star of a mark in a dimension, written to the first places of out; how many cells it has.
-pub fn star_of(w: &[u32], caps: Caps, d: u32, v: u32, out: &mut [u32]) -> u32
-    ensures { λ r. ⌜ Gives (now (w .entry)) caps mostAround (AtMark caps v) (λ m. star m d v) (now (out .entry)) r (now (out .exit)) ⌝ }
+pub fn star_of(w: &[u32], caps: Caps, d: u32, v: Mark, out: &mut [u32]) -> u32
+    ensures { λ r. ⌜ Gives (now (w .entry)) caps mostAround (AtMark caps (v .0)) (λ m. star m d (v .0)) (now (out .entry)) r (now (out .exit)) ⌝ }
 {
     let mut cells = [0u32; MOST_AROUND as usize];
     let n = gather(w, caps, v, &mut cells);

@@ -1,3 +1,7 @@
 -- The laws that the layers above cite.
-pub mod Writes
+pub mod Fields
 pub mod Slots
+pub mod Writes
+pub mod Opens
+pub mod Heads
+pub mod Rests

@@ -1,82 +1,223 @@
--- What a write into a record is, by its numbers; and what a head opens.
-use mathlib.Core.Path.{_≡_, refl, sym, ap, _∙_}
+-- What a write is: of a slot that there is, one word of the room; of any other, nothing.
+use mathlib.Core.Path.{_≡_, refl, sym, ap, _∙_, subst}
 use mathlib.Core.Bool.{Bool, true, false, cond, _&&_}
 use mathlib.Core.List.{List}
+use mathlib.Core.Logic.{_⊎_, ⊎-elim}
 use Prim.Native.Nat.{ℕ, _+_, _*_, _<_, _≤_}
-use borrow.Author.Tests.{lt-ltb, le-ltb, le-leb, lt-leb, eq-eqb, ne-eqb}
-use lib.Dec.{leb, ltb, eqb}
+use native.Mathlib.Omega.{arith}
+use borrow.Author.Tests.{lt-ltb, le-ltb, le-leb, lt-leb, ltb-true, leb-true}
+use lib.Dec.{leb, ltb}
 use lib.ListN.{getD, set, length}
 use Rattle.numbers.specs.declared.Caps.{Caps}
-use Rattle.store.specs.declared.Opened.the-variants.{Mesh, Nothing}
-use Rattle.store.specs.Layout.{markAt, cellAt, room, magic}
-use Rattle.store.specs.Slots.{setMark, setCell, isMesh}
-use Rattle.store.specs.Open.{opened}
+use denote.Ref.{RefT}
+use Rattle.words.specs.Words.{Only, Part}
+use Rattle.words.proofs.Frame.{only-none, only-put}
+use Rattle.store.specs.Layout.{room, markAt, nearAt, farAt}
+use Rattle.store.specs.Fields.{HeadField, Magic, MarkCap, CellCap, Count, HeadRest, MarkField, First, Held, Anchor, MarkRest, CellField, Code, Near, Sib, Link, Far, CellRest, headPlace, markPlace, cellPlace, HeadFits, MarkFits, CellFits}
+use Rattle.store.specs.Slots.{Slot, InHead, InMark, InCell, placeAt, address, Within, headOpen, markOpen, cellOpen, writable, read, written, cornerIn, marksAt}
+use Rattle.store.proofs.Slots.{slot-below}
 
-module _ (w : List ℕ) (caps : Caps) (n k x : ℕ) where
-  pub mark-in : n < caps .marks → k < 8 → setMark w caps n k x ≡ set w (markAt n + k) x
-  unfolding setMark
-  mark-in a b = simp (lt-ltb n (caps .marks) a, lt-ltb k 8 b)
+never : {A : Type 0} → false ≡ true → A
+never e = absurd (omega (arith, ap {B = ℕ} (λ (b : Bool). cond b 1 0) e))
 
-  pub mark-out : caps .marks ≤ n → setMark w caps n k x ≡ w
-  unfolding setMark
-  mark-out a = simp (le-ltb n (caps .marks) a)
+and-left : (p q : Bool) → (p && q) ≡ true → p ≡ true
+and-left true q e = refl
+and-left false q e = e
 
-  pub mark-past : n < caps .marks → 8 ≤ k → setMark w caps n k x ≡ w
-  unfolding setMark
-  mark-past a b = simp (lt-ltb n (caps .marks) a, le-ltb k 8 b)
+and-right : (p q : Bool) → (p && q) ≡ true → q ≡ true
+and-right true q e = e
+and-right false q e = never e
 
-  pub cell-in : n < caps .cells → k < 16 → setCell w caps n k x ≡ set w (cellAt (caps .marks) n + k) x
-  unfolding setCell
-  cell-in a b = simp (lt-ltb n (caps .cells) a, lt-ltb k 16 b)
+and-both : {p q : Bool} → p ≡ true → q ≡ true → (p && q) ≡ true
+and-both a b = rw (a, b) refl
 
-  pub cell-out : caps .cells ≤ n → setCell w caps n k x ≡ w
-  unfolding setCell
-  cell-out a = simp (le-ltb n (caps .cells) a)
+and-first : {p : Bool} (q : Bool) → p ≡ false → (p && q) ≡ false
+and-first q e = rw e refl
 
-  pub cell-past : n < caps .cells → 16 ≤ k → setCell w caps n k x ≡ w
-  unfolding setCell
-  cell-past a b = simp (lt-ltb n (caps .cells) a, le-ltb k 16 b)
+and-second : (p : Bool) {q : Bool} → q ≡ false → (p && q) ≡ false
+and-second true e = e
+and-second false e = refl
 
-module _ (w : List ℕ) where
-  pub open-short : length w < 16 → opened w ≡ Nothing
-  unfolding opened isMesh
-  open-short a = simp (lt-leb 16 (length w) a)
+-- a slot that is written is one that there is
+head-open : (f : HeadField) → headOpen f ≡ true → HeadFits f
+unfolding headOpen
+head-open Magic e = omega arith
+head-open MarkCap e = omega arith
+head-open CellCap e = omega arith
+head-open (Count t) e = (leb-true 1 t (and-left (leb 1 t) (leb t 7) e), leb-true t 7 (and-right (leb 1 t) (leb t 7) e))
+head-open (HeadRest k) e = never e
 
-  module _ (a : 16 ≤ length w) where
-    pub open-other : (getD w 0 0 ≡ magic → ⊥) → opened w ≡ Nothing
-    unfolding opened isMesh
-    open-other b = simp (le-leb 16 (length w) a, ne-eqb (getD w 0 0) magic b)
+mark-open : (f : MarkField) → markOpen f ≡ true → MarkFits f
+unfolding markOpen
+mark-open First e = omega arith
+mark-open Held e = omega arith
+mark-open (Anchor d) e = (leb-true 1 d (and-left (leb 1 d) (leb d 3) e), leb-true d 3 (and-right (leb 1 d) (leb d 3) e))
+mark-open (MarkRest k) e = never e
 
-    module _ (b : getD w 0 0 ≡ magic) where
-      pub open-marks : 65535 < getD w 1 0 → opened w ≡ Nothing
-      unfolding opened isMesh
-      open-marks c = simp (le-leb 16 (length w) a, eq-eqb (getD w 0 0) magic b, lt-leb (getD w 1 0) 65535 c)
+cell-open : (f : CellField) → cellOpen f ≡ true → CellFits f
+unfolding cellOpen
+cell-open Code e = omega arith
+cell-open (Near k) e = ltb-true k 4 e
+cell-open (Sib f) e = ltb-true f 6 e
+cell-open (Link k) e = ltb-true k 8 e
+cell-open (Far k) e = ltb-true k 8 e
+cell-open (CellRest p) e = never e
 
-      module _ (c : getD w 1 0 ≤ 65535) where
-        pub open-cells : 65535 < getD w 2 0 → opened w ≡ Nothing
-        unfolding opened isMesh
-        open-cells d =
-            simp (le-leb 16 (length w) a, eq-eqb (getD w 0 0) magic b, le-leb (getD w 1 0) 65535 c, lt-leb (getD w 2 0) 65535 d)
+pub open-within : (caps : Caps) (x : Slot) → writable caps x ≡ true → Within (caps .marks) (caps .cells) x
+unfolding writable
+open-within caps (InHead f) e = head-open f e
+open-within caps (InMark v f) e =
+    (ltb-true v (caps .marks) (and-left (ltb v (caps .marks)) (markOpen f) e), mark-open f (and-right (ltb v (caps .marks)) (markOpen f) e))
+open-within caps (InCell c f) e =
+    (ltb-true c (caps .cells) (and-left (ltb c (caps .cells)) (cellOpen f) e), cell-open f (and-right (ltb c (caps .cells)) (cellOpen f) e))
 
-        module _ (d : getD w 2 0 ≤ 65535) where
-          pub open-room : length w < room (getD w 1 0) (getD w 2 0) → opened w ≡ Nothing
-          unfolding opened isMesh
-          open-room e =
-              simp (
-                le-leb 16 (length w) a,
-                eq-eqb (getD w 0 0) magic b,
-                le-leb (getD w 1 0) 65535 c,
-                le-leb (getD w 2 0) 65535 d,
-                lt-leb (room (getD w 1 0) (getD w 2 0)) (length w) e,
-              )
+-- the fields that stand in either part
+module _ (marks cells c k : ℕ) where
+  pub link-near : k < 4 → address marks cells (InCell c (Link k)) ≡ nearAt marks c + (11 + k)
+  unfolding address placeAt cellPlace
+  link-near h = rw (lt-ltb k 4 h)
 
-          pub open-mesh : room (getD w 1 0) (getD w 2 0) ≤ length w → opened w ≡ Mesh (record { marks = getD w 1 0; cells = getD w 2 0 })
-          unfolding opened isMesh
-          open-mesh e =
-              simp (
-                le-leb 16 (length w) a,
-                eq-eqb (getD w 0 0) magic b,
-                le-leb (getD w 1 0) 65535 c,
-                le-leb (getD w 2 0) 65535 d,
-                le-leb (room (getD w 1 0) (getD w 2 0)) (length w) e,
-              )
+  pub link-far : 4 ≤ k → address marks cells (InCell c (Link k)) ≡ farAt marks cells c + (4 + k)
+  unfolding address placeAt cellPlace
+  link-far h = rw (le-ltb k 4 h)
+
+module _ (w : List ℕ) (caps : Caps) (y : ℕ) where
+  pub write-in : (x : Slot) → writable caps x ≡ true → written w caps x y ≡ set w (address (caps .marks) (caps .cells) x) y
+  unfolding written
+  write-in x e = rw e
+
+  pub write-out : (x : Slot) → writable caps x ≡ false → written w caps x y ≡ w
+  unfolding written
+  write-out x e = rw e
+
+  pub mark-inside : (v : ℕ) (f : MarkField) → v < caps .marks → markOpen f ≡ true
+      → written w caps (InMark v f) y ≡ set w (address (caps .marks) (caps .cells) (InMark v f)) y
+  unfolding writable
+  mark-inside v f h e = write-in (InMark v f) (rw (lt-ltb v (caps .marks) h) e)
+
+  pub mark-outside : (v : ℕ) (f : MarkField) → caps .marks ≤ v → written w caps (InMark v f) y ≡ w
+  unfolding writable
+  mark-outside v f h = write-out (InMark v f) (rw (le-ltb v (caps .marks) h) refl)
+
+  pub cell-inside : (c : ℕ) (f : CellField) → c < caps .cells → cellOpen f ≡ true
+      → written w caps (InCell c f) y ≡ set w (address (caps .marks) (caps .cells) (InCell c f)) y
+  unfolding writable
+  cell-inside c f h e = write-in (InCell c f) (rw (lt-ltb c (caps .cells) h) e)
+
+  pub cell-outside : (c : ℕ) (f : CellField) → caps .cells ≤ c → written w caps (InCell c f) y ≡ w
+  unfolding writable
+  cell-outside c f h = write-out (InCell c f) (rw (le-ltb c (caps .cells) h) refl)
+
+  -- as the code makes it
+  pub write-at : (x : Slot) (i : ℕ) (w′ : List ℕ) → w′ ≡ set w i y → i ≡ address (caps .marks) (caps .cells) x → writable caps x ≡ true → w′ ≡ written w caps x y
+  write-at x i w′ e f o = e ∙ (ap (λ (k : ℕ). set w k y) f ∙ sym (write-in x o))
+
+  pub write-mark : (v : ℕ) (f : MarkField) (i : ℕ) (w′ : List ℕ) → w′ ≡ set w i y → i ≡ address (caps .marks) (caps .cells) (InMark v f)
+      → v < caps .marks → markOpen f ≡ true → w′ ≡ written w caps (InMark v f) y
+  unfolding writable
+  write-mark v f i w′ e q h o = write-at (InMark v f) i w′ e q (rw (lt-ltb v (caps .marks) h) o)
+
+  pub write-cell : (c : ℕ) (f : CellField) (i : ℕ) (w′ : List ℕ) → w′ ≡ set w i y → i ≡ address (caps .marks) (caps .cells) (InCell c f)
+      → c < caps .cells → cellOpen f ≡ true → w′ ≡ written w caps (InCell c f) y
+  unfolding writable
+  write-cell c f i w′ e q h o = write-at (InCell c f) i w′ e q (rw (lt-ltb c (caps .cells) h) o)
+
+  -- field by field
+  pub count-out : (t : ℕ) → (t < 1) ⊎ (7 < t) → written w caps (InHead (Count t)) y ≡ w
+  unfolding writable headOpen
+  count-out t h =
+      write-out (InHead (Count t)) (⊎-elim (λ (l : t < 1). and-first (leb t 7) (lt-leb 1 t l)) (λ (l : 7 < t). and-second (leb 1 t) (lt-leb t 7 l)) h)
+
+  pub count-in : (t i : ℕ) (w′ : List ℕ) → w′ ≡ set w i y → i ≡ 4 + t → 1 ≤ t → t ≤ 7 → w′ ≡ written w caps (InHead (Count t)) y
+  unfolding writable headOpen address headPlace
+  count-in t i w′ e q a b = write-at (InHead (Count t)) i w′ e q (and-both (le-leb 1 t a) (le-leb t 7 b))
+
+  pub anchor-out : (v d : ℕ) → (d < 1) ⊎ (3 < d) → written w caps (InMark v (Anchor d)) y ≡ w
+  unfolding writable markOpen
+  anchor-out v d h =
+      write-out (InMark v (Anchor d))
+      (and-second (ltb v (caps .marks))
+      (⊎-elim (λ (l : d < 1). and-first (leb d 3) (lt-leb 1 d l)) (λ (l : 3 < d). and-second (leb 1 d) (lt-leb d 3 l)) h))
+
+  pub anchor-in : (v d i : ℕ) (w′ : List ℕ) → w′ ≡ set w i y → i ≡ markAt v + (1 + d) → v < caps .marks → 1 ≤ d → d ≤ 3
+      → w′ ≡ written w caps (InMark v (Anchor d)) y
+  unfolding markOpen address markPlace
+  anchor-in v d i w′ e q h a b = write-mark v (Anchor d) i w′ e q h (and-both (le-leb 1 d a) (le-leb d 3 b))
+
+  module _ (c k : ℕ) where
+    pub near-out : 4 ≤ k → written w caps (InCell c (Near k)) y ≡ w
+    unfolding writable cellOpen
+    near-out h = write-out (InCell c (Near k)) (and-second (ltb c (caps .cells)) (le-ltb k 4 h))
+
+    pub near-in : (i : ℕ) (w′ : List ℕ) → w′ ≡ set w i y → i ≡ nearAt (caps .marks) c + (1 + k) → c < caps .cells → k < 4
+        → w′ ≡ written w caps (InCell c (Near k)) y
+    unfolding cellOpen address placeAt cellPlace
+    near-in i w′ e q h o = write-cell c (Near k) i w′ e q h (lt-ltb k 4 o)
+
+    pub far-out : 8 ≤ k → written w caps (InCell c (Far k)) y ≡ w
+    unfolding writable cellOpen
+    far-out h = write-out (InCell c (Far k)) (and-second (ltb c (caps .cells)) (le-ltb k 8 h))
+
+    pub far-in : (i : ℕ) (w′ : List ℕ) → w′ ≡ set w i y → i ≡ farAt (caps .marks) (caps .cells) c + k → c < caps .cells → k < 8
+        → w′ ≡ written w caps (InCell c (Far k)) y
+    unfolding cellOpen address placeAt cellPlace
+    far-in i w′ e q h o = write-cell c (Far k) i w′ e q h (lt-ltb k 8 o)
+
+    pub sib-out : 6 ≤ k → written w caps (InCell c (Sib k)) y ≡ w
+    unfolding writable cellOpen
+    sib-out h = write-out (InCell c (Sib k)) (and-second (ltb c (caps .cells)) (le-ltb k 6 h))
+
+    pub sib-in : (i : ℕ) (w′ : List ℕ) → w′ ≡ set w i y → i ≡ nearAt (caps .marks) c + (5 + k) → c < caps .cells → k < 6
+        → w′ ≡ written w caps (InCell c (Sib k)) y
+    unfolding cellOpen address placeAt cellPlace
+    sib-in i w′ e q h o = write-cell c (Sib k) i w′ e q h (lt-ltb k 6 o)
+
+    pub link-out : 8 ≤ k → written w caps (InCell c (Link k)) y ≡ w
+    unfolding writable cellOpen
+    link-out h = write-out (InCell c (Link k)) (and-second (ltb c (caps .cells)) (le-ltb k 8 h))
+
+    pub link-in-near : (i : ℕ) (w′ : List ℕ) → w′ ≡ set w i y → i ≡ nearAt (caps .marks) c + (11 + k) → c < caps .cells → k < 4
+        → w′ ≡ written w caps (InCell c (Link k)) y
+    unfolding cellOpen
+    link-in-near i w′ e q h o = write-cell c (Link k) i w′ e (q ∙ sym (link-near (caps .marks) (caps .cells) c k o)) h (lt-ltb k 8 (omega arith))
+
+    pub link-in-far : (i : ℕ) (w′ : List ℕ) → w′ ≡ set w i y → i ≡ farAt (caps .marks) (caps .cells) c + (4 + k) → c < caps .cells → 4 ≤ k → k < 8
+        → w′ ≡ written w caps (InCell c (Link k)) y
+    unfolding cellOpen
+    link-in-far i w′ e q h l o = write-cell c (Link k) i w′ e (q ∙ sym (link-far (caps .marks) (caps .cells) c k l)) h (lt-ltb k 8 o)
+
+  -- on any memory a write stays in the room
+  pub write-only : (x : Slot) → Only (λ i. i < room (caps .marks) (caps .cells)) w (written w caps x y)
+  unfolding written
+  write-only x = go (writable caps x) refl
+    where
+      go : (b : Bool) → writable caps x ≡ b
+          → Only (λ i. i < room (caps .marks) (caps .cells)) w (cond b (set w (address (caps .marks) (caps .cells) x) y) w)
+      go true e = only-put w (address (caps .marks) (caps .cells) x) y (slot-below (caps .marks) (caps .cells) x (open-within caps x e))
+      go false e = only-none
+
+pub read-at : (w : List ℕ) (caps : Caps) (x : Slot) (i r : ℕ) → r ≡ getD w i 0 → i ≡ address (caps .marks) (caps .cells) x → r ≡ read w caps x
+unfolding read
+read-at w caps x i r e f = e ∙ ap (λ (k : ℕ). getD w k 0) f
+
+-- a corner and the marks by the part that they stand in
+module _ (w : List ℕ) (caps : Caps) (c k : ℕ) where
+  pub corner-near : k < 4 → cornerIn w caps c k ≡ read w caps (InCell c (Near k))
+  unfolding cornerIn
+  corner-near h = rw (lt-ltb k 4 h)
+
+  pub corner-far : 4 ≤ k → cornerIn w caps c k ≡ read w caps (InCell c (Far k))
+  unfolding cornerIn
+  corner-far h = rw (le-ltb k 4 h)
+
+module _ (caps : Caps) (c n : ℕ) where
+  pub marks-near : n ≤ 4 → marksAt caps c n ≡ nearAt (caps .marks) c + 1
+  unfolding marksAt address placeAt cellPlace
+  marks-near h = rw (le-leb n 4 h)
+
+  pub marks-far : 4 < n → marksAt caps c n ≡ farAt (caps .marks) (caps .cells) c + 0
+  unfolding marksAt address placeAt cellPlace
+  marks-far h = rw (lt-leb n 4 h)
+
+pub part-at : (w : RefT (List ℕ)) (i j n : ℕ) (r : RefT (List ℕ)) → Part w i n r → i ≡ j → Part w j n r
+part-at w i j n r p e = subst (λ (k : ℕ). Part w k n r) e p

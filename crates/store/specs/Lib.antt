@@ -1,3 +1,5 @@
 pub mod Layout
+pub mod Fields
 pub mod Slots
 pub mod Open
+pub mod Rests

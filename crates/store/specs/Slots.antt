@@ -1,23 +1,76 @@
--- Words by their slot.
-use mathlib.Core.Bool.{Bool, cond, _&&_, _||_}
+-- A word of the room by its record and its field; what is read there, and what is written.
+use mathlib.Core.Bool.{Bool, true, false, cond, _&&_}
 use mathlib.Core.List.{List}
-use Prim.Native.Nat.{ℕ, _+_}
-use lib.Dec.{leb, ltb, eqb}
-use lib.ListN.{getD, set, length}
+use Prim.Native.Nat.{ℕ, _+_, _<_}
+use lib.Dec.{leb, ltb}
+use lib.ListN.{getD, set}
 use Rattle.numbers.specs.declared.Caps.{Caps}
-use Rattle.store.specs.Layout.{markAt, cellAt, room, magic}
-use Rattle.numbers.specs.Sizes.{mostCapacity}
+use Rattle.store.specs.Layout.{markAt, nearAt, farAt}
+use Rattle.store.specs.Fields.{HeadField, Magic, MarkCap, CellCap, Count, HeadRest, MarkField, First, Held, Anchor, MarkRest, CellField, Code, Near, Sib, Link, Far, CellRest, Place, InNear, InFar, headPlace, markPlace, cellPlace, HeadFits, MarkFits, CellFits}
 
--- a word is written only inside its record
-unfoldable pub setMark : List ℕ → Caps → ℕ → ℕ → ℕ → List ℕ
-setMark w caps v k x = cond (ltb v (caps .marks) && ltb k 8) (set w (markAt v + k) x) w
+pub data Slot : Type 0 where
+  InHead : HeadField → Slot
+  InMark : ℕ → MarkField → Slot
+  InCell : ℕ → CellField → Slot
 
-unfoldable pub setCell : List ℕ → Caps → ℕ → ℕ → ℕ → List ℕ
-setCell w caps c k x = cond (ltb c (caps .cells) && ltb k 16) (set w (cellAt (caps .marks) c + k) x) w
+unfoldable pub placeAt : ℕ → ℕ → ℕ → Place → ℕ
+placeAt marks cells c (InNear k) = nearAt marks c + k
+placeAt marks cells c (InFar k) = farAt marks cells c + k
 
--- the head gives capacities whose room fits: "14 is given whenever memory is under 16 words, or its head gives no capacities or gives
--- ones whose room does not fit"
-unfoldable pub isMesh : List ℕ → Bool
-isMesh w =
-    leb 16 (length w)
-    && (eqb (getD w 0 0) magic && (leb (getD w 1 0) mostCapacity && (leb (getD w 2 0) mostCapacity && leb (room (getD w 1 0) (getD w 2 0)) (length w))))
+unfoldable pub address : ℕ → ℕ → Slot → ℕ
+address marks cells (InHead f) = headPlace f
+address marks cells (InMark v f) = markAt v + markPlace f
+address marks cells (InCell c f) = placeAt marks cells c (cellPlace f)
+
+-- the slots that there are
+abbrev pub Within : ℕ → ℕ → Slot → Type 0
+Within marks cells (InHead f) = HeadFits f
+Within marks cells (InMark v f) = (v < marks) × MarkFits f
+Within marks cells (InCell c f) = (c < cells) × CellFits f
+
+-- the word of a slot
+unfoldable pub read : List ℕ → Caps → Slot → ℕ
+read w caps x = getD w (address (caps .marks) (caps .cells) x) 0
+
+-- the slots that are written one by one: the capacities and the words that say nothing are written by a format alone
+unfoldable pub headOpen : HeadField → Bool
+headOpen Magic = false
+headOpen MarkCap = false
+headOpen CellCap = false
+headOpen (Count t) = leb 1 t && leb t 7
+headOpen (HeadRest k) = false
+
+unfoldable pub markOpen : MarkField → Bool
+markOpen First = true
+markOpen Held = true
+markOpen (Anchor d) = leb 1 d && leb d 3
+markOpen (MarkRest k) = false
+
+unfoldable pub cellOpen : CellField → Bool
+cellOpen Code = true
+cellOpen (Near k) = ltb k 4
+cellOpen (Sib f) = ltb f 6
+cellOpen (Link k) = ltb k 8
+cellOpen (Far k) = ltb k 8
+cellOpen (CellRest p) = false
+
+unfoldable pub writable : Caps → Slot → Bool
+writable caps (InHead f) = headOpen f
+writable caps (InMark v f) = ltb v (caps .marks) && markOpen f
+writable caps (InCell c f) = ltb c (caps .cells) && cellOpen f
+
+-- a word written; nothing where there is no such slot
+unfoldable pub written : List ℕ → Caps → Slot → ℕ → List ℕ
+written w caps x y = cond (writable caps x) (set w (address (caps .marks) (caps .cells) x) y) w
+
+-- the type of a cell
+abbrev pub codeIn : List ℕ → Caps → ℕ → ℕ
+codeIn w caps c = read w caps (InCell c Code)
+
+-- the mark at a corner of a cell
+unfoldable pub cornerIn : List ℕ → Caps → ℕ → ℕ → ℕ
+cornerIn w caps c k = cond (ltb k 4) (read w caps (InCell c (Near k))) (read w caps (InCell c (Far k)))
+
+-- where the first n marks of a cell stand side by side
+unfoldable pub marksAt : Caps → ℕ → ℕ → ℕ
+marksAt caps c n = cond (leb n 4) (address (caps .marks) (caps .cells) (InCell c (Near 0))) (address (caps .marks) (caps .cells) (InCell c (Far 0)))

@@ -6,33 +6,14 @@ use native.Mathlib.Omega.{arith}
 use borrow.Author.Tests.{ne-eqb}
 use Rattle.lists.specs.Lists.{first}
 use Rattle.map.specs.Answers.{Answer}
-use Rattle.map.specs.Paper.{numberOf, given, refused, verdictSays, builtSays}
+use Rattle.map.specs.Says.{numberOf, given, refused, verdictSays, builtSays}
 use Rattle.map.specs.declared.Refusal.{Refusal}
-use Rattle.map.specs.declared.Refusal.the-variants.{CapacityAbove, MemoryShort, CellOutside, CellLive, CellNotLive, TypeUnknown, CountWrong, MarkOutside, MarkTwice, CellSame, MarkFull, OutputShort, FacetOutside, NotMesh, BadFrame}
 use Rattle.map.specs.declared.Verdict.{Verdict}
 use Rattle.map.specs.declared.Verdict.the-variants as Verdict′
 use Rattle.map.specs.declared.Built.{Built}
 use Rattle.map.specs.declared.Built.the-variants as Built′
-use Rattle.checks.proofs.Values.{number-some}
+use Rattle.map.proofs.Refusals.{number-some}
 use Rattle.tell.specs.Told.{Told, ToldFound}
-
--- a refusal's number fits a byte
-pub number-byte : (why : Refusal) → numberOf why % 256 ≡ numberOf why
-number-byte CapacityAbove = refl
-number-byte MemoryShort = refl
-number-byte CellOutside = refl
-number-byte CellLive = refl
-number-byte CellNotLive = refl
-number-byte TypeUnknown = refl
-number-byte CountWrong = refl
-number-byte MarkOutside = refl
-number-byte MarkTwice = refl
-number-byte CellSame = refl
-number-byte MarkFull = refl
-number-byte OutputShort = refl
-number-byte FacetOutside = refl
-number-byte NotMesh = refl
-number-byte BadFrame = refl
 
 module _ (a : Answer) (x : ℕ) where
   pub told-refused : (why : Refusal) (r : ℕ) → a ≡ refused why → r ≡ numberOf why → Told a x r x

@@ -4,7 +4,7 @@
 // the answer's value, or as it was where the answer has none (specs/Told.antt). What a caller should know: a refused build has a value,
 // the place of its record; every other answer has one only where it is accepted.
 ghost use mathlib.Core.Path.{_≡_};
-ghost use Rattle.map.specs.Paper.{numberOf, verdictSays, valueSays, halfSays, truthSays, builtSays, foundSays};
+ghost use Rattle.map.specs.Says.{numberOf, verdictSays, valueSays, halfSays, truthSays, builtSays, foundSays};
 ghost use Rattle.tell.specs.Told.{Told, ToldFound};
 use map::Built;
 use map::Found;

@@ -12,7 +12,7 @@ use lib.ListN.{getD, length}
 use Rattle.lists.specs.Lists.{keep, first, after, listOf}
 use Rattle.lists.proofs.Members.{first-at}
 use Rattle.lists.proofs.Keep.{keep-yes, keep-no}
-use Rattle.sibling.proofs.Mapped.{list-at}
+use Rattle.lists.proofs.Mapped.{list-at}
 
 module _ (h : ℕ) (g : ℕ → ℕ) where
   -- none of the first i is above h

@@ -18,7 +18,9 @@ use Rattle.lists.proofs.Counts.{none-has, has-none}
 use Rattle.lists.proofs.Every.{every-at, at-every}
 use Rattle.numbers.specs.Half.{halfOf}
 use Rattle.shapes.specs.Shapes.{shape, facetCount}
-use Rattle.shapes.proofs.Today.{four-facets, type-marks}
+use Rattle.shapes.specs.Sizes.{mostCode}
+use Rattle.shapes.proofs.Facts.{facts}
+use Rattle.shapes.proofs.Types.{type-marks}
 use Rattle.numbers.specs.declared.Caps.{Caps}
 use Rattle.map.specs.Cells.{Map, live, holds, dimensionAt, facetsAt, cellsOf}
 use Rattle.map.specs.Siblings.{isHalf, Half, sibling}
@@ -28,10 +30,12 @@ use Rattle.laws.proofs.Halves.{half-live}
 use Rattle.picture.specs.State.{State, next, mapWith}
 use Rattle.picture.specs.Picture.{Pic}
 use Rattle.picture.specs.Ready.{Ready, Settled}
-use Rattle.facet.specs.Facet.{codeIn}
-use Rattle.sibling.proofs.OnPicture.{code-read, facets-count}
+use Rattle.store.specs.Fields.{Count}
+use Rattle.store.specs.Slots.{InHead, read, codeIn}
+use Rattle.laws.proofs.Facets.{facets-count}
+use Rattle.picture.proofs.Record.{code-read}
 use Rattle.laid.specs.Upright.{Upright}
-use Rattle.whole.specs.Tests.{twinOf, loneOf, sibRight, sibsRight, ancRight, ancsRight, countIn, countRight}
+use Rattle.whole.specs.SecondHalf.{twinOf, loneOf, sibRight, sibsRight, ancRight, ancsRight, countIn, countRight}
 
 module _ (caps : Caps) (s : State) where
   -- no two cells the same
@@ -138,10 +142,10 @@ module _ (w : List ℕ) (caps : Caps) (s : State) (p : Pic w caps s) where
       (λ c h.
       at-every (sibRight caps s c) (facetCount (codeIn w caps c))
       (λ f l.
-      let few : f < 4 = omega (arith, four-facets (codeIn w caps c)) in
+      let few : f < 6 = omega (arith, facts (codeIn w caps c) .facets) in
       eq-eqb (s .sib (8 * c + f)) (sibling (mapWith caps s) (8 * c + f)) (t .siblings (8 * c + f) (is-half c f h l few))))
     where
-      is-half : (c f : ℕ) → c < caps .cells → f < facetCount (codeIn w caps c) → f < 4 → ltb ((8 * c + f) % 8) (length (facetsAt (mapWith caps s) ((8 * c + f) / 8))) ≡ true
+      is-half : (c f : ℕ) → c < caps .cells → f < facetCount (codeIn w caps c) → f < 6 → ltb ((8 * c + f) % 8) (length (facetsAt (mapWith caps s) ((8 * c + f) / 8))) ≡ true
       is-half c f h l few =
           let a : (8 * c + f) / 8 ≡ c = omega arith in
           let b : (8 * c + f) % 8 ≡ f = omega arith in
@@ -154,17 +158,14 @@ module _ (w : List ℕ) (caps : Caps) (s : State) (p : Pic w caps s) where
       ap length
       (select-same (λ c. eqb (codeIn w caps c) t) (λ c. eqb (s .at c .code) t) (caps .cells) (λ c h. ap (λ (k : ℕ). eqb k t) (code-read w caps s p c h)))
 
-  pub counts-right : every 4 (countRight w caps) ≡ true → (t : ℕ) → 1 ≤ t → t ≤ 4 → getD w (4 + t) 0 ≡ length (cellsOf (mapWith caps s) t)
+  pub counts-right : every mostCode (countRight w caps) ≡ true → (t : ℕ) → 1 ≤ t → t ≤ mostCode → read w caps (InHead (Count t)) ≡ length (cellsOf (mapWith caps s) t)
   unfolding countRight
   counts-right e t low high =
-      let a : 5 + (t - 1) ≡ 4 + t = omega arith in
       let b : t - 1 + 1 ≡ t = omega arith in
-      (rw (a, b) at (eqb-true (getD w (5 + (t - 1)) 0) (countIn w caps (t - 1 + 1)) (every-at (countRight w caps) 4 e (t - 1) (omega arith)))) ∙ count-cells t
+      (rw b at (eqb-true (read w caps (InHead (Count (t - 1 + 1)))) (countIn w caps (t - 1 + 1)) (every-at (countRight w caps) mostCode e (t - 1) (omega arith)))) ∙ count-cells t
 
-  pub right-counts : ((t : ℕ) → 1 ≤ t → t ≤ 4 → getD w (4 + t) 0 ≡ length (cellsOf (mapWith caps s) t)) → every 4 (countRight w caps) ≡ true
+  pub right-counts : ((t : ℕ) → 1 ≤ t → t ≤ mostCode → read w caps (InHead (Count t)) ≡ length (cellsOf (mapWith caps s) t)) → every mostCode (countRight w caps) ≡ true
   unfolding countRight
   right-counts f =
-      at-every (countRight w caps) 4
-      (λ t h.
-      let a : 5 + t ≡ 4 + (t + 1) = omega arith in
-      eq-eqb (getD w (5 + t) 0) (countIn w caps (t + 1)) (ap (λ (i : ℕ). getD w i 0) a ∙ (f (t + 1) (omega arith) (omega arith) ∙ sym (count-cells (t + 1)))))
+      at-every (countRight w caps) mostCode
+      (λ t h. eq-eqb (read w caps (InHead (Count (t + 1)))) (countIn w caps (t + 1)) (f (t + 1) (omega arith) (omega arith) ∙ sym (count-cells (t + 1))))

@@ -8,7 +8,7 @@ use Rattle.lists.proofs.Every.{every-start, every-more, every-stop, every-end}
 use Rattle.numbers.specs.declared.Caps.{Caps}
 use Rattle.picture.specs.State.{State}
 use Rattle.picture.specs.Picture.{Pic}
-use Rattle.whole.specs.Tests.{Sees}
+use Rattle.whole.specs.SecondHalf.{Sees}
 
 module _ (w : List ℕ) (caps : Caps) (ok : State → Type 0) (test : State → ℕ → Bool) where
   -- those below i pass

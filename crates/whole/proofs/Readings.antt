@@ -2,7 +2,7 @@
 use mathlib.Core.Path.{_≡_, refl, sym, ap, _∙_}
 use mathlib.Core.Bool.{Bool, true, false, not, _&&_, _||_}
 use mathlib.Core.List.{List, []}
-use Prim.Native.Nat.{ℕ, zero, suc, _+_, _*_, _%_, _<_, _≤_}
+use Prim.Native.Nat.{ℕ, zero, suc, _+_, _*_, _/_, _%_, _<_, _≤_}
 use native.Mathlib.Numerals.{add-one}
 use native.Mathlib.Omega.{arith}
 use borrow.Author.Tests.{eq-eqb, ne-eqb}
@@ -17,9 +17,11 @@ use Rattle.numbers.specs.Half.{halfOf}
 use Rattle.numbers.proofs.Inverse.{half-uncut}
 use Rattle.shapes.specs.Shapes.{noShape, shapes, shape, facetCount}
 use Rattle.shapes.specs.Table.{table}
-use Rattle.shapes.proofs.Today.{four-facets, type-marks}
+use Rattle.shapes.proofs.Facts.{facts}
+use Rattle.shapes.proofs.Types.{type-marks}
 use Rattle.numbers.specs.declared.Caps.{Caps}
-use Rattle.store.specs.Layout.{markAt, cellAt, Mark, Cell, address}
+use Rattle.store.specs.Fields.{Count, Anchor, Sib}
+use Rattle.store.specs.Slots.{InHead, InMark, InCell, read, codeIn, cornerIn}
 use Rattle.map.specs.Cells.{Map, live, holds, dimensionAt, facetsAt}
 use Rattle.map.specs.Siblings.{sharers, siblings, sibling, marksOf}
 use Rattle.map.specs.Stars.{holders, anchors}
@@ -28,20 +30,19 @@ use Rattle.laws.proofs.Anchors.{half-facet}
 use Rattle.picture.specs.State.{State, next, mapWith}
 use Rattle.picture.specs.Picture.{chainOf, Pic}
 use Rattle.picture.specs.Ready.{Ready}
-use Rattle.picture.proofs.Writers.{anchor-word}
 use Rattle.chain.specs.Chain.{Gathered}
-use Rattle.facet.specs.Facet.{codeIn, cornerIn, facetIn}
+use Rattle.facet.specs.Facet.{facetIn}
 use Rattle.sibling.specs.Shared.{Shared}
-use Rattle.sibling.proofs.OnPicture.{code-read, corner-read, facet-read, facets-count}
-use Rattle.sibling.proofs.OneWord.{sibling-slot}
+use Rattle.laws.proofs.Facets.{facets-count, facet-some, facet-inside}
+use Rattle.picture.proofs.Record.{code-read, corner-read, sib-read, anchor-read}
+use Rattle.facet.proofs.Read.{facet-read}
 use Rattle.star.specs.Listed.{Reads}
 use Rattle.group.specs.Group.{Around}
-use Rattle.listing.proofs.Listed.{copied-list}
-use Rattle.listing.proofs.Facets.{facet-some, facet-inside}
+use Rattle.lists.proofs.Mapped.{copied-list}
 use Rattle.laid.specs.Upright.{Upright}
-use Rattle.laid.proofs.Right.{marks-is}
+use Rattle.facet.proofs.Read.{marks-is}
 use Rattle.laid.proofs.Uprights.{upright-chain, upright-linked}
-use Rattle.whole.specs.Tests.{Sees, Readied, SettledBy, twinIn, twinOf, loneOf, sibRight, ancRight, countIn, countRight}
+use Rattle.whole.specs.SecondHalf.{Sees, Readied, SettledBy, twinIn, twinOf, loneOf, sibRight, ancRight, countIn, countRight}
 
 module _ (w : List ℕ) (caps : Caps) (s : State) (p : Pic w caps s) (u : Upright caps s) where
   -- a twin by the records is one by the map
@@ -70,9 +71,9 @@ module _ (w : List ℕ) (caps : Caps) (s : State) (p : Pic w caps s) (u : Uprigh
 
 module _ (w : List ℕ) (caps : Caps) (c : ℕ) where
   -- the step that looks for another cell of the kind
-  pub lone-none : (x : ℕ) → x ≡ getD w (cellAt (caps .marks) c + 0) 0 → x ≡ 0
+  pub lone-none : (x : ℕ) → x ≡ codeIn w caps c → x ≡ 0
       → Sees w caps (λ s. Upright caps s × (c < caps .cells)) (λ s. loneOf (mapWith caps s) c) true
-  unfolding loneOf mapWith codeIn
+  unfolding loneOf mapWith
   lone-none x e z = record {
     sees = λ s p k. sym (or-left (eqb (s .at c .code) 0) _ (eq-eqb (s .at c .code) 0 (sym (code-read w caps s p c (k .1)) ∙ (sym e ∙ z))));
   }
@@ -86,11 +87,11 @@ module _ (w : List ℕ) (caps : Caps) (c : ℕ) where
   unfolding loneOf mapWith
   lone-of s v r same first some = rw (ne-eqb (s .at c .code) 0 some, ← first, same)
 
-  pub lone-some : (x v n : ℕ) (o o′ : List ℕ) (r : Bool) → x ≡ getD w (cellAt (caps .marks) c + 0) 0 → (x ≡ 0 → ⊥)
-      → v ≡ getD w (cellAt (caps .marks) c + 1) 0 → Gathered w caps v o n o′ → length o ≡ 128
+  pub lone-some : (x v n : ℕ) (o o′ : List ℕ) (r : Bool) → x ≡ codeIn w caps c → (x ≡ 0 → ⊥)
+      → v ≡ cornerIn w caps c 0 → Gathered w caps v o n o′ → length o ≡ 128
       → r ≡ any (twinIn w caps c) (listOf n (λ i. getD o′ i 0))
       → Sees w caps (λ s. Upright caps s × (c < caps .cells)) (λ s. loneOf (mapWith caps s) c) (not r)
-  unfolding loneOf codeIn cornerIn
+  unfolding loneOf
   lone-some x v n o o′ r e f q g size b = record { sees = at }
     where
       at : (s : State) → Pic w caps s → Upright caps s × (c < caps .cells) → not r ≡ loneOf (mapWith caps s) c
@@ -114,20 +115,13 @@ module _ (w : List ℕ) (caps : Caps) (rows : List (List (List ℕ))) (c f : ℕ
     unfolding facetCount mapWith
     few = omega (arith, facets-count (mapWith caps s) c, ap (λ (t : ℕ). length (shape t .facets)) (code-read w caps s p c h))
 
-    four : f < 4
+    small : f < 6
     unfolding facetCount
-    four = omega (arith, four-facets (codeIn w caps c))
-
-    alive : live (mapWith caps s) c ≡ true
-    unfolding live mapWith facetCount shape shapes noShape
-    alive =
-        ap not
-        (ne-eqb (s .at c .code) 0 (λ z.
-        let none : facetCount (codeIn w caps c) ≡ 0 = ap facetCount (code-read w caps s p c h ∙ z) in
-        omega (arith, none)))
+    small = omega (arith, facts (codeIn w caps c) .facets)
 
     facet-is : facetIn w caps rows c f ≡ getD (facetsAt (mapWith caps s) c) f []
-    facet-is = rw types (facet-read w caps s p c h f)
+    unfolding mapWith
+    facet-is = rw types (facet-read w caps s p c h (r .sound .fitting c) f)
 
     set-is : facetIn w caps rows c f ≡ marksOf (mapWith caps s) (halfOf c f)
     unfolding halfOf
@@ -141,28 +135,31 @@ module _ (w : List ℕ) (caps : Caps) (rows : List (List (List ℕ))) (c f : ℕ
         (shared .list s p r
         (record {
           types = types;
-          some = rw facet-is (facet-some (mapWith caps s) (r .sound) c f alive few);
-          mark = rw facet-is (facet-inside (mapWith caps s) (r .sound) c f alive few);
+          some = rw facet-is (facet-some (mapWith caps s) c f few);
+          mark = rw facet-is (facet-inside (mapWith caps s) c f few (r .sound));
         }))
         ∙ ap (sharers (mapWith caps s)) set-is
 
-    stored-is : getD w (cellAt (caps .marks) c + (5 + f)) 0 ≡ s .sib (halfOf c f)
-    unfolding address halfOf
-    stored-is = p .words (Cell c (5 + f)) (h, omega (arith, four)) ∙ sibling-slot caps s c f four
+    stored-is : read w caps (InCell (halfOf c f / 8) (Sib (halfOf c f % 8))) ≡ s .sib (halfOf c f)
+    unfolding halfOf
+    stored-is =
+        let cell : (8 * c + f) / 8 ≡ c = omega (arith, small) in
+        let facet : (8 * c + f) % 8 ≡ f = omega (arith, small) in
+        sib-read w caps s p (8 * c + f) (omega (arith, cell)) (omega (arith, facet, small))
 
     one : (n half next stored : ℕ) (o o′ : List ℕ) → Shared w caps rows (facetIn w caps rows c f) o n o′ → length o ≡ 128
         → half ≡ halfOf (c % 65536) (f % 8) → next ≡ after half (listOf n (λ i. getD o′ i 0))
-        → stored ≡ getD w (cellAt (caps .marks) c + (5 + f)) 0 → eqb stored next ≡ sibRight caps s c f
+        → stored ≡ read w caps (InCell (half / 8) (Sib (half % 8))) → eqb stored next ≡ sibRight caps s c f
     unfolding sibRight sibling
     one n half next stored o o′ shared size uncut found word =
-        let half-is : half ≡ halfOf c f = uncut ∙ half-uncut c f (omega (arith, p .cells)) (omega (arith, four)) in
+        let half-is : half ≡ halfOf c f = uncut ∙ half-uncut c f (omega (arith, p .cells)) (omega (arith, small)) in
         let next-is : next ≡ after (halfOf c f) (siblings (mapWith caps s) (halfOf c f)) =
         found ∙ (ap (λ (h : ℕ). after h (listOf n (λ i. getD o′ i 0))) half-is ∙ ap (after (halfOf c f)) (shared-is n o o′ shared size)) in
-        rw (word ∙ stored-is, next-is)
+        rw (word ∙ (ap (λ (h : ℕ). read w caps (InCell (h / 8) (Sib (h % 8)))) half-is ∙ stored-is), next-is)
 
   pub sibling-held : (n half next stored : ℕ) (o o′ : List ℕ) → Shared w caps rows (facetIn w caps rows c f) o n o′ → length o ≡ 128
       → half ≡ halfOf (c % 65536) (f % 8) → next ≡ after half (listOf n (λ i. getD o′ i 0))
-      → stored ≡ getD w (cellAt (caps .marks) c + (5 + f)) 0
+      → stored ≡ read w caps (InCell (half / 8) (Sib (half % 8)))
       → Sees w caps (λ s. (Readied caps rows s × (c < caps .cells)) × (f < facetCount (codeIn w caps c))) (λ s. sibRight caps s c f) (eqb stored next)
   sibling-held n half next stored o o′ shared size uncut found word = record { sees = at }
     where
@@ -171,22 +168,19 @@ module _ (w : List ℕ) (caps : Caps) (rows : List (List (List ℕ))) (c f : ℕ
 
 -- the step that holds a stored first anchor against the first anchor
 module _ (w : List ℕ) (caps : Caps) (rows : List (List (List ℕ))) (v d : ℕ) (less : d < 3) where
-  pub anchor-held : (x y : ℕ) → x ≡ getD w (markAt v + (d + 2)) 0 → Reads w caps (Around caps rows v) (λ m. next (anchors m (d + 1) v)) y
+  pub anchor-held : (x y : ℕ) → x ≡ read w caps (InMark v (Anchor (d + 1))) → Reads w caps (Around caps rows v) (λ m. next (anchors m (d + 1) v)) y
       → Sees w caps (λ s. (SettledBy caps rows s × (v < caps .marks)) × (d < 3)) (λ s. ancRight caps s v d) (eqb x y)
-  unfolding ancRight address
+  unfolding ancRight
   anchor-held x y e g = record { sees = at }
     where
       at : (s : State) → Pic w caps s → (SettledBy caps rows s × (v < caps .marks)) × (d < 3)
           → eqb x y ≡ eqb (s .anc (d + 1) v) (next (anchors (mapWith caps s) (d + 1) v))
       at s p k =
-          let place : markAt v + (d + 2) ≡ markAt v + (1 + (d + 1)) = omega arith in
-          let stored : x ≡ s .anc (d + 1) v =
-          e ∙ (ap (λ (i : ℕ). getD w i 0) place
-          ∙ (p .words (Mark v (1 + (d + 1))) (k .0 .1, omega (arith, k .1)) ∙ anchor-word caps s d v 0 v (d + 1) (omega arith) (omega (arith, k .1)))) in
+          let stored : x ≡ s .anc (d + 1) v = e ∙ anchor-read w caps s p (d + 1) v (k .0 .1) (omega arith) (omega (arith, k .1)) in
           rw (stored, g .reads s p (record { settled = k .0 .0 .settled; types = k .0 .0 .types; mark = k .0 .1 }))
 
 -- the step that holds a stored count against a count of the cells
-module _ (w : List ℕ) (caps : Caps) (t x y : ℕ) (e : x ≡ getD w (5 + t) 0) (q : y ≡ countIn w caps (t + 1)) where
+module _ (w : List ℕ) (caps : Caps) (t x y : ℕ) (e : x ≡ read w caps (InHead (Count (t + 1)))) (q : y ≡ countIn w caps (t + 1)) where
   pub count-yes : x ≡ y → countRight w caps t ≡ true
   unfolding countRight
   count-yes z = rw (← e, ← q) (eq-eqb x y z)
@@ -207,16 +201,16 @@ module _ (w : List ℕ) (caps : Caps) (t : ℕ) where
   pub counted-few : (c n : ℕ) → Counted c n → n ≤ c
   counted-few c n e = omega (arith, e, select-size (λ k. eqb (codeIn w caps k) t) c)
 
-  pub counted-more : (c n n′ x : ℕ) → Counted c n → x ≡ getD w (cellAt (caps .marks) c + 0) 0 → x ≡ t → n′ ≡ n + 1 → Counted (c + 1) n′
-  unfolding select codeIn
+  pub counted-more : (c n n′ x : ℕ) → Counted c n → x ≡ codeIn w caps c → x ≡ t → n′ ≡ n + 1 → Counted (c + 1) n′
+  unfolding select
   counted-more c n n′ x e q z next =
-      let here : eqb (getD w (cellAt (caps .marks) c + 0) 0) t ≡ true = eq-eqb _ _ (sym q ∙ z) in
+      let here : eqb (codeIn w caps c) t ≡ true = eq-eqb _ _ (sym q ∙ z) in
       rw (add-one c, here, length-append) (omega (arith, e, next))
 
-  pub counted-same : (c n n′ x : ℕ) → Counted c n → x ≡ getD w (cellAt (caps .marks) c + 0) 0 → (x ≡ t → ⊥) → n′ ≡ n → Counted (c + 1) n′
-  unfolding select codeIn
+  pub counted-same : (c n n′ x : ℕ) → Counted c n → x ≡ codeIn w caps c → (x ≡ t → ⊥) → n′ ≡ n → Counted (c + 1) n′
+  unfolding select
   counted-same c n n′ x e q f next =
-      let here : eqb (getD w (cellAt (caps .marks) c + 0) 0) t ≡ false = ne-eqb _ _ (λ z. f (q ∙ z)) in
+      let here : eqb (codeIn w caps c) t ≡ false = ne-eqb _ _ (λ z. f (q ∙ z)) in
       rw (add-one c, here) (next ∙ e)
 
   pub counted-end : (c n : ℕ) → Counted c n → c ≤ caps .cells → caps .cells ≤ c → n ≡ countIn w caps t

@@ -13,28 +13,31 @@ use Rattle.lists.proofs.Bools.{clash, and-left, and-right}
 use Rattle.shapes.specs.Shapes.{shape, facetCount}
 use Rattle.shapes.specs.Table.{table}
 use Rattle.numbers.specs.declared.Caps.{Caps}
+use Rattle.numbers.specs.Sizes.{mostCapacity}
 use Rattle.store.specs.declared.Opened.the-variants.{Mesh, Nothing}
-use Rattle.store.specs.Layout.{magic, room, cellAt, Head, address}
-use Rattle.store.specs.Slots.{isMesh}
-use Rattle.store.specs.Open.{opened}
+use Rattle.shapes.specs.Sizes.{mostCode}
+use Rattle.store.specs.Layout.{magic, room}
+use Rattle.store.specs.Fields.{Magic, MarkCap, CellCap, Count}
+use Rattle.store.specs.Slots.{InHead, read, codeIn}
+use Rattle.store.specs.Open.{headIn, capsIn, isMesh, opened}
 use Rattle.map.specs.Cells.{Map, facetsAt, cellsOf}
 use Rattle.map.specs.Siblings.{isHalf}
 use Rattle.map.specs.Stars.{anchors}
-use Rattle.picture.specs.State.{State, next, capsOf, mapWith, stateOf}
+use Rattle.picture.specs.State.{State, next, mapWith, stateOf}
 use Rattle.picture.specs.Picture.{Pic, Wf}
 use Rattle.picture.specs.Ready.{Ready, Settled}
 use Rattle.picture.proofs.Settles.{wf-pic, wf-settled, wf-map}
-use Rattle.picture.proofs.Writers.{count-word}
-use Rattle.facet.specs.Facet.{codeIn}
-use Rattle.sibling.proofs.OnPicture.{code-read, facets-count}
+use Rattle.laws.proofs.Facets.{facets-count}
+use Rattle.picture.proofs.Record.{code-read, count-read}
 use Rattle.checks.proofs.Opens.{nothing-opened, mesh-opened, wf-mesh, wf-caps}
 use Rattle.laid.specs.Laid.{laidIn}
 use Rattle.laid.specs.Upright.{Upright}
-use Rattle.laid.proofs.Seen.{seen, Headed, seen-pic, behind-facets}
+use Rattle.laid.proofs.Records.{Headed, behind-facets}
+use Rattle.laid.proofs.Seen.{seen, seen-pic}
 use Rattle.laid.proofs.Uprights.{upright-ready, ready-upright, seen-upright}
 use Rattle.laid.proofs.Right.{wf-laid}
 use Rattle.whole.specs.Whole.{Whole}
-use Rattle.whole.specs.Tests.{Sees, Readied, SettledBy, loneOf, sibsRight, ancsRight, countRight}
+use Rattle.whole.specs.SecondHalf.{Sees, Readied, SettledBy, loneOf, sibsRight, ancsRight, countRight}
 use Rattle.whole.proofs.Settling.{settled-wf}
 use Rattle.whole.proofs.Deciding.{lone-alone, ready-lone, ancs-right, right-ancs, sibs-settled, settled-sibs, facets-read, counts-right, right-counts}
 
@@ -47,26 +50,26 @@ no-mesh w e = not-whole w (λ m wf. clash (wf-mesh w m wf) (nothing-opened w e))
 
 module _ (w : List ℕ) (caps : Caps) (opens : Mesh caps ≡ opened w) where
   headed : Headed w caps
-  unfolding isMesh
+  unfolding isMesh capsIn headIn
   headed =
       let o = mesh-opened w caps opens in
       let a = and-right (leb 16 (length w)) _ (o .0) in
-      let b = and-right (eqb (getD w 0 0) magic) _ a in
-      let c = and-right (leb (getD w 1 0) 65535) _ b in
-      let d = and-right (leb (getD w 2 0) 65535) _ c in
+      let b = and-right (eqb (headIn w Magic) magic) _ a in
+      let c = and-right (leb (headIn w MarkCap) mostCapacity) _ b in
+      let d = and-right (leb (headIn w CellCap) mostCapacity) _ c in
       rw (o .1)
       (record {
-        first = eqb-true (getD w 0 0) magic (and-left (eqb (getD w 0 0) magic) _ a);
+        first = eqb-true (headIn w Magic) magic (and-left (eqb (headIn w Magic) magic) _ a);
         marks = refl;
         cells = refl;
-        marks-few = leb-true (getD w 1 0) 65535 (and-left (leb (getD w 1 0) 65535) _ b);
-        cells-few = leb-true (getD w 2 0) 65535 (and-left (leb (getD w 2 0) 65535) _ c);
-        fits = leb-true (room (getD w 1 0) (getD w 2 0)) (length w) d;
+        marks-few = leb-true (headIn w MarkCap) mostCapacity (and-left (leb (headIn w MarkCap) mostCapacity) _ b);
+        cells-few = leb-true (headIn w CellCap) mostCapacity (and-left (leb (headIn w CellCap) mostCapacity) _ c);
+        fits = leb-true (room (headIn w MarkCap) (headIn w CellCap)) (length w) d;
       })
 
   -- well-formed memory passes each part
   module _ (m : Map) (wf : Wf w m) where
-    same-caps : capsOf m ≡ caps
+    same-caps : m .caps ≡ caps
     same-caps = wf-caps w m wf caps opens
 
     pic : Pic w caps (stateOf m)
@@ -75,11 +78,9 @@ module _ (w : List ℕ) (caps : Caps) (opens : Mesh caps ≡ opened w) where
     settled : Settled caps (stateOf m)
     settled = wf-settled w caps m same-caps wf
 
-    counted : (t : ℕ) → 1 ≤ t → t ≤ 4 → getD w (4 + t) 0 ≡ length (cellsOf (mapWith caps (stateOf m)) t)
-    unfolding address stateOf
-    counted t low high =
-        pic .words (Head (4 + t)) (omega arith)
-        ∙ (count-word caps (stateOf m) t 0 low high ∙ ap (λ (k : Map). length (cellsOf k t)) (sym (wf-map w caps m same-caps wf)))
+    counted : (t : ℕ) → 1 ≤ t → t ≤ mostCode → read w caps (InHead (Count t)) ≡ length (cellsOf (mapWith caps (stateOf m)) t)
+    unfolding stateOf
+    counted t low high = count-read w caps (stateOf m) pic t low high ∙ ap (λ (k : Map). length (cellsOf k t)) (sym (wf-map w caps m same-caps wf))
 
     anchored : (v d : ℕ) → v < caps .marks → 1 ≤ d → d ≤ 3 → stateOf m .anc d v ≡ next (anchors (mapWith caps (stateOf m)) d v)
     unfolding stateOf
@@ -93,7 +94,7 @@ module _ (w : List ℕ) (caps : Caps) (opens : Mesh caps ≡ opened w) where
       not-whole w (λ m wf.
       clash (g .sees (stateOf m) (pic m wf) (ready-upright caps (stateOf m) (settled m wf .ready)) ∙ ready-lone caps (stateOf m) (settled m wf .ready)) e)
 
-  pub no-counts : every 4 (countRight w caps) ≡ false → Whole w false
+  pub no-counts : every mostCode (countRight w caps) ≡ false → Whole w false
   no-counts e = not-whole w (λ m wf. clash (right-counts w caps (stateOf m) (pic m wf) (counted m wf)) e)
 
   module _ (rows : List (List (List ℕ))) (types : rows ≡ table) where
@@ -109,7 +110,7 @@ module _ (w : List ℕ) (caps : Caps) (opens : Mesh caps ≡ opened w) where
     -- memory that passes all is the well-formed memory of the map that it tells
     module _ (laid : laidIn w caps ≡ true) (lone sibs ancs : Bool)
         (see-lone : Sees w caps (Upright caps) (λ s. every (caps .cells) (loneOf (mapWith caps s))) lone) (is-lone : lone ≡ true)
-        (counts : every 4 (countRight w caps) ≡ true)
+        (counts : every mostCode (countRight w caps) ≡ true)
         (see-sibs : Sees w caps (Readied caps rows) (λ s. every (caps .cells) (sibsRight w caps s)) sibs) (is-sibs : sibs ≡ true)
         (see-ancs : Sees w caps (SettledBy caps rows) (λ s. every (caps .marks) (ancsRight caps s)) ancs) where
       told : Pic w caps (seen w caps)
@@ -126,7 +127,7 @@ module _ (w : List ℕ) (caps : Caps) (opens : Mesh caps ≡ opened w) where
           sibs-settled w caps (seen w caps) told ready
           (sym (see-sibs .sees (seen w caps) told (record { ready = ready; types = types })) ∙ is-sibs)
 
-      empty-facet : (c f : ℕ) → c < caps .cells → f < 4 → isHalf (mapWith caps (seen w caps)) (8 * c + f) ≡ false → seen w caps .sib (8 * c + f) ≡ 0
+      empty-facet : (c f : ℕ) → c < caps .cells → f < 6 → isHalf (mapWith caps (seen w caps)) (8 * c + f) ≡ false → seen w caps .sib (8 * c + f) ≡ 0
       unfolding seen isHalf
       empty-facet c f h less e =
           let a : (8 * c + f) / 8 ≡ c = omega arith in

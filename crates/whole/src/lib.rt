@@ -9,49 +9,56 @@ ghost use lib.ListN.{getD};
 ghost use Rattle.lists.specs.Lists.{any, every, listOf, after};
 ghost use Rattle.shapes.specs.Shapes.{facetCount};
 ghost use Rattle.picture.specs.State.{mapWith};
-ghost use Rattle.facet.specs.Facet.{codeIn};
+ghost use Rattle.shapes.specs.Sizes.{mostCode};
+ghost use Rattle.store.specs.Slots.{codeIn};
 ghost use Rattle.laid.specs.Upright.{Upright};
 ghost use Rattle.whole.specs.Whole.{Whole};
-ghost use Rattle.whole.specs.Tests.{Sees, Readied, SettledBy, twinIn, loneOf, sibRight, sibsRight, ancRight, ancsRight, countIn, countRight};
+ghost use Rattle.whole.specs.SecondHalf.{Sees, Readied, SettledBy, twinIn, loneOf, sibRight, sibsRight, ancRight, ancsRight, countIn, countRight};
 use chain::gather;
+use facet::marks_at;
 use group::first_anchor_of;
 use laid::laid;
-use laid::marks_at;
 use lists::same_set;
 use numbers::Caps;
 use numbers::Cell;
+use numbers::Half;
 use numbers::MOST_AROUND;
+use numbers::Mark;
 use numbers::half_of;
 use shapes::FacetTable;
+use shapes::MOST_CODE;
 use shapes::facet_count;
 use shapes::facet_table;
 use sibling::facet_sharers;
 use store::Opened;
-use store::cell_word;
-use store::mark_word;
+use store::anchor_of;
+use store::code_of;
+use store::corner_of;
+use store::count_of;
 use store::open;
+use store::sibling_of;
 use words::word;
 
 // Whether k is another cell than c, of the same type with the same set of marks.
-fn twin(w: &[u32], caps: Caps, c: u32, k: u32) -> bool
-    ensures { λ r. ⌜ r ≡ twinIn (now (w .entry)) caps c k ⌝ }
+fn twin(w: &[u32], caps: Caps, c: Cell, k: Cell) -> bool
+    ensures { λ r. ⌜ r ≡ twinIn (now (w .entry)) caps (c .0) (k .0) ⌝ }
 {
-    if k == c {
+    if k.0 == c.0 {
         return false;
     }
-    if cell_word(w, caps, k, 0) != cell_word(w, caps, c, 0) {
+    if code_of(w, caps, k) != code_of(w, caps, c) {
         return false;
     }
     same_set(marks_at(w, caps, k), marks_at(w, caps, c))
 }
 
-// Whether one of the first n cells of a list is such a one.
-fn twins(w: &[u32], caps: Caps, c: u32, cells: &[u32], n: u32) -> bool
-    ensures { λ r. ⌜ r ≡ any (twinIn (now (w .entry)) caps c) (listOf n (λ i. getD (now (cells .entry)) i 0)) ⌝ }
+// Whether one of the first n cells of a list is a twin of c.
+fn twins(w: &[u32], caps: Caps, c: Cell, cells: &[u32], n: u32) -> bool
+    ensures { λ r. ⌜ r ≡ any (twinIn (now (w .entry)) caps (c .0)) (listOf n (λ i. getD (now (cells .entry)) i 0)) ⌝ }
 {
     let mut i: u32 = 0;
     while i < n {
-        if twin(w, caps, c, word(cells, i as usize)) {
+        if twin(w, caps, c, Cell(word(cells, i as usize))) {
             return true;
         }
         i += 1;
@@ -60,25 +67,25 @@ fn twins(w: &[u32], caps: Caps, c: u32, cells: &[u32], n: u32) -> bool
 }
 
 // Whether no other cell is of the type of c with its set of marks.
-fn lone(w: &[u32], caps: Caps, c: u32) -> bool
-    ensures { λ r. ⌜ Sees (now (w .entry)) caps (λ s. Upright caps s × (c < caps .cells)) (λ s. loneOf (mapWith caps s) c) r ⌝ }
+fn lone(w: &[u32], caps: Caps, c: Cell) -> bool
+    ensures { λ r. ⌜ Sees (now (w .entry)) caps (λ s. Upright caps s × (c .0 < caps .cells)) (λ s. loneOf (mapWith caps s) (c .0)) r ⌝ }
 {
-    if cell_word(w, caps, c, 0) == 0 {
+    if code_of(w, caps, c) == 0 {
         return true;
     }
-    let v = cell_word(w, caps, c, 1);
+    let v = corner_of(w, caps, c, 0);
     let mut cells = [0u32; MOST_AROUND as usize];
     let n = gather(w, caps, v, &mut cells);
     !twins(w, caps, c, &cells, n)
 }
 
-// So for all cells.
+// Whether no two cells are twins.
 fn all_lone(w: &[u32], caps: Caps) -> bool
     ensures { λ r. ⌜ Sees (now (w .entry)) caps (Upright caps) (λ s. every (caps .cells) (loneOf (mapWith caps s))) r ⌝ }
 {
     let mut c: u32 = 0;
     while c < caps.cells {
-        if !lone(w, caps, c) {
+        if !lone(w, caps, Cell(c)) {
             return false;
         }
         c += 1;
@@ -87,43 +94,38 @@ fn all_lone(w: &[u32], caps: Caps) -> bool
 }
 
 // The number after h among the first n of a list, and after the last the first.
-fn next_in(list: &[u32], n: u32, h: u32) -> u32
-    ensures { λ r. ⌜ r ≡ after h (listOf n (λ i. getD (now (list .entry)) i 0)) ⌝ }
+fn next_in(list: &[u32], n: u32, h: Half) -> u32
+    ensures { λ r. ⌜ r ≡ after (h .0) (listOf n (λ i. getD (now (list .entry)) i 0)) ⌝ }
 {
     let mut i: u32 = 0;
     while i < n {
         let x = word(list, i as usize);
-        if h < x {
+        if h.0 < x {
             return x;
         }
         i += 1;
     }
     if n == 0 {
-        return h;
+        return h.0;
     }
     word(list, 0)
 }
 
 // Whether the stored sibling of a half-facet is the sibling.
-fn sibling_ok(w: &[u32], caps: Caps, rows: &FacetTable, c: u32, f: u32) -> bool
-    ensures { λ r. ⌜ Sees (now (w .entry)) caps (λ s. (Readied caps (now (rows .entry)) s × (c < caps .cells)) × (f < facetCount (codeIn (now (w .entry)) caps c))) (λ s. sibRight caps s c f) r ⌝ }
+fn sibling_ok(w: &[u32], caps: Caps, rows: &FacetTable, c: Cell, f: u32) -> bool
+    ensures { λ r. ⌜ Sees (now (w .entry)) caps (λ s. (Readied caps (now (rows .entry)) s × (c .0 < caps .cells)) × (f < facetCount (codeIn (now (w .entry)) caps (c .0)))) (λ s. sibRight caps s (c .0) f) r ⌝ }
 {
     let mut halves = [0u32; MOST_AROUND as usize];
     let n = facet_sharers(w, caps, rows, c, f, &mut halves);
-    let half = half_of(Cell(c), f);
-    let next = next_in(&halves, n, half.0);
-    let stored = word(
-        w,
-        16 + 8 * (caps.marks as usize) + 16 * (c as usize) + (5 + (f as usize)),
-    );
-    stored == next
+    let half = half_of(c, f);
+    sibling_of(w, caps, half).0 == next_in(&halves, n, half)
 }
 
-// So for each facet of a cell.
-fn siblings_ok(w: &[u32], caps: Caps, rows: &FacetTable, c: u32) -> bool
-    ensures { λ r. ⌜ Sees (now (w .entry)) caps (λ s. Readied caps (now (rows .entry)) s × (c < caps .cells)) (λ s. sibsRight (now (w .entry)) caps s c) r ⌝ }
+// Whether the stored siblings of a cell are its siblings.
+fn siblings_ok(w: &[u32], caps: Caps, rows: &FacetTable, c: Cell) -> bool
+    ensures { λ r. ⌜ Sees (now (w .entry)) caps (λ s. Readied caps (now (rows .entry)) s × (c .0 < caps .cells)) (λ s. sibsRight (now (w .entry)) caps s (c .0)) r ⌝ }
 {
-    let n = facet_count(cell_word(w, caps, c, 0));
+    let n = facet_count(code_of(w, caps, c));
     let mut f: u32 = 0;
     while f < n {
         if !sibling_ok(w, caps, rows, c, f) {
@@ -134,13 +136,13 @@ fn siblings_ok(w: &[u32], caps: Caps, rows: &FacetTable, c: u32) -> bool
     true
 }
 
-// So for all cells.
+// Whether all stored siblings are the siblings.
 fn all_siblings(w: &[u32], caps: Caps, rows: &FacetTable) -> bool
     ensures { λ r. ⌜ Sees (now (w .entry)) caps (Readied caps (now (rows .entry))) (λ s. every (caps .cells) (sibsRight (now (w .entry)) caps s)) r ⌝ }
 {
     let mut c: u32 = 0;
     while c < caps.cells {
-        if !siblings_ok(w, caps, rows, c) {
+        if !siblings_ok(w, caps, rows, Cell(c)) {
             return false;
         }
         c += 1;
@@ -149,12 +151,12 @@ fn all_siblings(w: &[u32], caps: Caps, rows: &FacetTable) -> bool
 }
 
 // Whether the stored first anchors of a mark are its first anchors.
-fn anchors_ok(w: &[u32], caps: Caps, rows: &FacetTable, v: u32) -> bool
-    ensures { λ r. ⌜ Sees (now (w .entry)) caps (λ s. SettledBy caps (now (rows .entry)) s × (v < caps .marks)) (λ s. ancsRight caps s v) r ⌝ }
+fn anchors_ok(w: &[u32], caps: Caps, rows: &FacetTable, v: Mark) -> bool
+    ensures { λ r. ⌜ Sees (now (w .entry)) caps (λ s. SettledBy caps (now (rows .entry)) s × (v .0 < caps .marks)) (λ s. ancsRight caps s (v .0)) r ⌝ }
 {
     let mut d: u32 = 0;
     while d < 3 {
-        if mark_word(w, v, d + 2) != first_anchor_of(w, caps, rows, d + 1, v) {
+        if anchor_of(w, caps, d + 1, v) != first_anchor_of(w, caps, rows, d + 1, v) {
             return false;
         }
         d += 1;
@@ -162,13 +164,13 @@ fn anchors_ok(w: &[u32], caps: Caps, rows: &FacetTable, v: u32) -> bool
     true
 }
 
-// So for all marks.
+// Whether all stored first anchors are the first anchors.
 fn all_anchors(w: &[u32], caps: Caps, rows: &FacetTable) -> bool
     ensures { λ r. ⌜ Sees (now (w .entry)) caps (SettledBy caps (now (rows .entry))) (λ s. every (caps .marks) (ancsRight caps s)) r ⌝ }
 {
     let mut v: u32 = 0;
     while v < caps.marks {
-        if !anchors_ok(w, caps, rows, v) {
+        if !anchors_ok(w, caps, rows, Mark(v)) {
             return false;
         }
         v += 1;
@@ -183,7 +185,7 @@ fn count(w: &[u32], caps: Caps, t: u32) -> u32
     let mut n: u32 = 0;
     let mut c: u32 = 0;
     while c < caps.cells {
-        if cell_word(w, caps, c, 0) == t {
+        if code_of(w, caps, Cell(c)) == t {
             n += 1;
         }
         c += 1;
@@ -193,11 +195,11 @@ fn count(w: &[u32], caps: Caps, t: u32) -> u32
 
 // Whether the stored live counts are those of the types.
 fn counts_ok(w: &[u32], caps: Caps) -> bool
-    ensures { λ r. ⌜ r ≡ every 4 (countRight (now (w .entry)) caps) ⌝ }
+    ensures { λ r. ⌜ r ≡ every mostCode (countRight (now (w .entry)) caps) ⌝ }
 {
     let mut t: u32 = 0;
-    while t < 4 {
-        if word(w, 5 + (t as usize)) != count(w, caps, t + 1) {
+    while t < MOST_CODE {
+        if count_of(w, caps, t + 1) != count(w, caps, t + 1) {
             return false;
         }
         t += 1;

@@ -5,7 +5,7 @@ use Prim.Native.Nat.{ℕ, _+_, _-_, _<_, _≤_}
 use native.Mathlib.Omega.{arith}
 use borrow.Author.Tests.{le-leb, lt-leb}
 use lib.ListN.{length, getD, take, drop, length-drop}
-use lib.Seq.{getD-take, getD-drop, length-take-le}
+use lib.Seq.{ext-getD, getD-take, getD-drop, length-take-le}
 use denote.Ref.{RefT, now}
 use Rattle.words.specs.Words.{partOf, BeginsAt, Part}
 
@@ -40,3 +40,12 @@ part-length m at n h = ap length (part-fits m at n h) ∙ length-take-le n (drop
 pub part-word : (m : List ℕ) (at n k : ℕ) → at + n ≤ length m → k < n → getD (partOf m at n) k 0 ≡ getD m (at + k) 0
 part-word m at n k h less =
     ap (λ (l : List ℕ). getD l k 0) (part-fits m at n h) ∙ (getD-take n (drop at m) k 0 less ∙ getD-drop at m k 0)
+
+-- the words of a list, one after another, are the list
+pub part-is : (m : List ℕ) (at : ℕ) (l : List ℕ) → at + length l ≤ length m → ((k : ℕ) → k < length l → getD m (at + k) 0 ≡ getD l k 0)
+    → partOf m at (length l) ≡ l
+part-is m at l h words =
+    ext-getD 0 (partOf m at (length l)) l (part-length m at (length l) h)
+    (λ k less.
+    let low : k < length l = omega (arith, part-length m at (length l) h) in
+    part-word m at (length l) k h low ∙ words k low)

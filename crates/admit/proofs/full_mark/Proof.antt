@@ -1,5 +1,5 @@
 -- `admit::full_mark` meets its contract.
-use mathlib.Core.Path.{_≡_, refl, sym, ap, _∙_}
+use mathlib.Core.Path.{_≡_, refl}
 use Prim.Native.Nat.{_-_, _≤_}
 use native.Mathlib.Omega.{arith}
 use lib.ListN.{length, drop}
@@ -12,19 +12,19 @@ use Rattle.admit.proofs.full_mark.Statement.{statement}
 use Rattle.admit.proofs.full_mark.Tie as tie
 
 abbrev Inv-loop : tie.InvT-loop
-Inv-loop w marks i₀ i = (i ≤ length marks) × (any (fullIn w) marks ≡ any (fullIn w) (drop i marks))
+Inv-loop w caps marks i₀ i = (i ≤ length marks) × (any (fullIn w caps) marks ≡ any (fullIn w caps) (drop i marks))
 
 abbrev μ-loop : tie.MeasureT-loop
-μ-loop w marks i₀ i = length marks - i
+μ-loop w caps marks i₀ i = length marks - i
 
 loop-holds : tie.Need-loop-holds Inv-loop μ-loop
 loop-holds c = (search needs, refl)
 
 returns : tie.Need-returns Inv-loop μ-loop
-returns c = any-stop _ _ (c .before .before .before .before .loop .i) (c .before .before .before .before .loop .inv .1) (full-yes _ _ _ (c .before .mark-word .ensures) (c .if1 .taken)) (omega arith)
+returns c = any-stop _ _ (c .before .before .before .before .loop .i) (c .before .before .before .before .loop .inv .1) (full-yes _ _ _ _ (c .before .held-of .ensures) (c .if1 .taken)) (omega arith)
 
 loop-again : tie.Need-loop-again Inv-loop μ-loop
-loop-again c = (omega arith, any-go _ _ (c .before .before .before .before .loop .i) (c .before .before .before .before .loop .inv .1) (full-no _ _ _ (c .before .mark-word .ensures) (c .if1 .left)) (omega arith))
+loop-again c = (omega arith, any-go _ _ (c .before .before .before .before .loop .i) (c .before .before .before .before .loop .inv .1) (full-no _ _ _ _ (c .before .held-of .ensures) (c .if1 .left)) (omega arith))
 
 returns-2 : tie.Need-returns-2 Inv-loop μ-loop
 returns-2 c = any-end _ _ (c .before .loop .i) (c .before .loop .inv .1) (omega arith)

@@ -1,12 +1,15 @@
 -- `admit::same_cell` meets its contract.
-use mathlib.Core.Path.{_≡_, refl, sym, ap, _∙_}
+use mathlib.Core.Path.{refl}
 use Rattle.admit.proofs.Alike.{same-found}
 use borrow.Author.Needs.{needs}
 use Rattle.admit.proofs.same_cell.Statement.{statement}
 use Rattle.admit.proofs.same_cell.Tie as tie
 
 returns : tie.Need-returns
-returns c = same-found _ _ _ _ _ (c .before .before .before .before .before .word .ensures) _ _ _ (c .before .before .before .gather .ensures) refl _ (c .one-same .ensures)
+returns c =
+    let at-gather = c .before .before .before in
+    let at-word = at-gather .before .before in
+    same-found _ _ _ _ _ (at-word .word .ensures) _ _ _ (at-gather .gather .ensures) refl _ (c .one-same .ensures)
 
 pub same-cell-spec : {M : Type 1} → statement M
 same-cell-spec =

@@ -1,5 +1,5 @@
 -- `ask::sibling` meets its contract.
-use mathlib.Core.Path.{refl, sym, _∙_}
+use mathlib.Core.Path.{sym, _∙_}
 use Rattle.ask.proofs.Asks.{asked-none}
 use Rattle.ask.proofs.Calls.{sibling-refused, sibling-given}
 use borrow.Author.Needs.{needs}
@@ -10,10 +10,21 @@ returns : tie.Need-returns
 returns c = asked-none _ _ _ _ (sym (c .enum-told .given .1) ∙ c .before .before .«open» .ensures)
 
 returns-2 : tie.Need-returns-2
-returns-2 c = sibling-refused _ _ (sym (c .before .before .before .before .before .caps .given .1) ∙ c .before .before .before .before .before .before .before .«open» .ensures) _ _ _ (c .before .before .before .check-half .ensures) _ (c .before .why .given .1)
+returns-2 c =
+    let at-why = c .before in
+    let at-check-half = at-why .before .before in
+    let at-caps = at-check-half .before .before in
+    let at-start = at-caps .before .before in
+    sibling-refused _ _ (sym (at-caps .caps .given .1) ∙ at-start .«open» .ensures) _ _ _ (at-check-half .check-half .ensures) _ (at-why .why .given .1)
 
 returns-3 : tie.Need-returns-3
-returns-3 c = sibling-given _ _ (sym (c .before .before .before .before .before .caps .given .1) ∙ c .before .before .before .before .before .before .before .«open» .ensures) _ _ _ (c .before .before .before .check-half .ensures) (c .before .enum-told2 .given .1) _ (c .sibling-word .ensures) _ refl
+returns-3 c =
+    let at-half-of = c .before in
+    let at-enum-told2 = at-half-of .before in
+    let at-check-half = at-enum-told2 .before .before in
+    let at-caps = at-check-half .before .before in
+    let at-start = at-caps .before .before in
+    sibling-given _ _ (sym (at-caps .caps .given .1) ∙ at-start .«open» .ensures) _ _ _ (at-check-half .check-half .ensures) (at-enum-told2 .enum-told2 .given .1) _ (at-half-of .half-of .ensures) _ (c .sibling-of .ensures)
 
 pub sibling-spec : {M : Type 1} → statement M
 sibling-spec =
@@ -26,6 +37,7 @@ sibling-spec =
     (λ c κs. search needs)
     (λ c. search needs)
     (λ c. search needs)
+    (λ c κs. search needs)
     (λ c κs. search needs)
     returns-2
     returns-3)

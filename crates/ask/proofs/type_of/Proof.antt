@@ -1,5 +1,5 @@
 -- `ask::type_of` meets its contract.
-use mathlib.Core.Path.{refl, sym, _∙_}
+use mathlib.Core.Path.{sym, _∙_}
 use Rattle.ask.proofs.Asks.{asked-none}
 use Rattle.ask.proofs.Calls.{type-refused, type-given}
 use borrow.Author.Needs.{needs}
@@ -10,10 +10,20 @@ returns : tie.Need-returns
 returns c = asked-none _ _ _ _ (sym (c .enum-told .given .1) ∙ c .before .before .«open» .ensures)
 
 returns-2 : tie.Need-returns-2
-returns-2 c = type-refused _ _ (sym (c .before .before .before .before .before .caps .given .1) ∙ c .before .before .before .before .before .before .before .«open» .ensures) _ _ (c .before .before .before .check-cell .ensures) _ (c .before .why .given .1)
+returns-2 c =
+    let at-why = c .before in
+    let at-check-cell = at-why .before .before in
+    let at-caps = at-check-cell .before .before in
+    let at-start = at-caps .before .before in
+    type-refused _ _ (sym (at-caps .caps .given .1) ∙ at-start .«open» .ensures) _ _ (at-check-cell .check-cell .ensures) _ (at-why .why .given .1)
 
 returns-3 : tie.Need-returns-3
-returns-3 c = type-given _ _ (sym (c .before .before .before .before .before .caps .given .1) ∙ c .before .before .before .before .before .before .before .«open» .ensures) _ _ (c .before .before .before .check-cell .ensures) (c .before .enum-told2 .given .1) _ (c .cell-word .ensures)
+returns-3 c =
+    let at-enum-told2 = c .before in
+    let at-check-cell = at-enum-told2 .before .before in
+    let at-caps = at-check-cell .before .before in
+    let at-start = at-caps .before .before in
+    type-given _ _ (sym (at-caps .caps .given .1) ∙ at-start .«open» .ensures) _ _ (at-check-cell .check-cell .ensures) (at-enum-told2 .enum-told2 .given .1) _ (c .code-of .ensures)
 
 pub type-of-spec : {M : Type 1} → statement M
 type-of-spec =

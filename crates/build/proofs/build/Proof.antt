@@ -2,6 +2,7 @@
 use Prim.Native.Nat.{_-_}
 use native.Mathlib.Omega.{arith}
 use lib.ListN.{length}
+use Rattle.numbers.specs.Sizes.{capacities}
 use borrow.Author.Needs.{needs}
 use Rattle.build.proofs.Records.{end-more}
 use Rattle.build.proofs.Going.{Going, build-refused, going-start, build-done, build-stopped, going-few, going-refused, going-next}
@@ -9,34 +10,55 @@ use Rattle.build.proofs.build.Statement.{statement}
 use Rattle.build.proofs.build.Tie as tie
 
 abbrev Inv-loop : tie.InvT-loop
-Inv-loop w₀ marks cells records at₀ place₀ w at place = Going w₀ marks cells records at place w
+Inv-loop w₀ marks cells records at₀ place₀ w at place = Going w₀ (capacities marks cells) records at place w
 
 abbrev μ-loop : tie.MeasureT-loop
 μ-loop w₀ marks cells records at₀ place₀ w at place = length records - at
 
 returns : tie.Need-returns Inv-loop μ-loop
-returns c = build-refused _ _ _ _ _ _ (c .before .before .before .before .before .format .ensures) _ (c .before .why .given .1) _ (omega arith)
+returns c =
+    let at-why = c .before in
+    let at-format = at-why .before .before .before .before in
+    build-refused _ _ _ _ _ (at-format .format .ensures) _ (at-why .why .given .1) _ (omega arith)
 
 loop-holds : tie.Need-loop-holds Inv-loop μ-loop
-loop-holds c = going-start _ _ _ _ _ _ (c .before .before .before .before .format .ensures) (c .enum-told .given .1) _ _ (omega arith) (omega arith)
+loop-holds c = going-start _ _ _ _ _ (c .before .before .before .before .format .ensures) (c .enum-told .given .1) _ _ (omega arith) (omega arith)
 
 returns-2 : tie.Need-returns-2 Inv-loop μ-loop
 returns-2 c =
-    let s = going-refused _ _ _ _ _ _ _ (c .before .before .before .before .before .before .before .before .before .before .before .before .before .loop .inv) (omega arith) _ (c .before .before .before .before .before .before .before .before .before .before .before .record-end .ensures) _ _ (c .before .before .before .before .before .before .before .before .before .one-record .ensures) _ (c .before .before .before .before .before .why2 .given .1) in
-    build-stopped _ _ _ _ _ _ (c .before .before .before .before .before .before .before .before .before .before .before .before .before .before .before .before .before .before .format .ensures) (c .before .before .before .before .before .before .before .before .before .before .before .before .before .before .enum-told .given .1) _ _ (s .0) _ _ (s .1) _ _ _ (c .before .before .format2 .ensures) (omega arith) (omega arith) _ (omega arith)
+    let at-format2 = c .before .before in
+    let at-why2 = at-format2 .before .before .before in
+    let at-one-record = at-why2 .before .before .before .before in
+    let at-record-end = at-one-record .before .before in
+    let at-loop = at-record-end .before .before in
+    let at-enum-told = at-loop .before in
+    let at-format = at-enum-told .before .before .before .before in
+    let s = going-refused _ _ _ _ _ _ (at-loop .loop .inv) (omega arith) _ (at-record-end .record-end .ensures) _ _ (at-one-record .one-record .ensures) _ (at-why2 .why2 .given .1) in
+    build-stopped _ _ _ _ _ (at-format .format .ensures) (at-enum-told .enum-told .given .1) _ _ (s .0) _ _ (s .1) _ _ _ (at-format2 .format2 .ensures) (omega arith) (omega arith) _ (omega arith)
 
 add-place : tie.Need-add-place Inv-loop μ-loop
-add-place c = omega (arith, going-few _ _ _ _ _ _ _ (c .before .before .before .before .before .before .before .before .loop .inv))
+add-place c =
+    let at-loop = c .before .before .before .before .before .before .before .before in
+    omega (arith, going-few _ _ _ _ _ _ (at-loop .loop .inv))
 
 loop-less : tie.Need-loop-less Inv-loop μ-loop
-loop-less c = omega (arith, end-more _ _ _ (c .before .before .before .before .before .before .record-end .ensures) (omega arith))
+loop-less c =
+    let at-record-end = c .before .before .before .before .before .before in
+    omega (arith, end-more _ _ _ (at-record-end .record-end .ensures) (omega arith))
 
 loop-again : tie.Need-loop-again Inv-loop μ-loop
 loop-again c =
-    going-next _ _ _ _ _ _ _ (c .before .before .before .before .before .before .before .before .loop .inv) (omega arith) _ (c .before .before .before .before .before .before .record-end .ensures) _ _ (c .before .before .before .before .one-record .ensures) (c .enum-told2 .given .1) _ _ (omega arith) (omega arith)
+    let at-one-record = c .before .before .before .before in
+    let at-record-end = at-one-record .before .before in
+    let at-loop = at-record-end .before .before in
+    going-next _ _ _ _ _ _ (at-loop .loop .inv) (omega arith) _ (at-record-end .record-end .ensures) _ _ (at-one-record .one-record .ensures) (c .enum-told2 .given .1) _ _ (omega arith) (omega arith)
 
 returns-3 : tie.Need-returns-3 Inv-loop μ-loop
-returns-3 c = build-done _ _ _ _ _ _ (c .before .before .before .before .before .before .format .ensures) (c .before .before .enum-told .given .1) _ _ _ (c .before .loop .inv) (omega arith)
+returns-3 c =
+    let at-loop = c .before in
+    let at-enum-told = at-loop .before in
+    let at-format = at-enum-told .before .before .before .before in
+    build-done _ _ _ _ _ (at-format .format .ensures) (at-enum-told .enum-told .given .1) _ _ _ (at-loop .loop .inv) (omega arith)
 
 pub build-spec : {M : Type 1} → statement M
 build-spec =

@@ -13,7 +13,11 @@ returns-2 c = record-short _ _ _ _ (omega arith)
 
 returns-3 : tie.Need-returns-3
 returns-3 c =
-    record-made _ _ _ _ _ _ _ _ _ _ (omega arith) (c .before .before .before .before .before .before .word .ensures) (c .before .before .before .before .before .word2 .ensures) (omega arith) (c .before .before .before .before .part .ensures .words) (omega arith) (omega arith) _ _ (c .before .before .insert .ensures)
+    let at-insert = c .before .before in
+    let at-part = at-insert .before .before in
+    let at-word2 = at-part .before in
+    let at-word = at-word2 .before in
+    record-made _ _ _ _ _ _ _ _ _ _ (omega arith) (at-word .word .ensures) (at-word2 .word2 .ensures) (omega arith) (at-part .part .ensures .words) (omega arith) (omega arith) _ _ (at-insert .insert .ensures)
 
 pub one-record-spec : {M : Type 1} → statement M
 one-record-spec =

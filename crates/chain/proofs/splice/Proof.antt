@@ -1,5 +1,6 @@
--- `chain::splice` meets its contract: where it writes nothing, no state allows the step; its three writes are `splice-step`.
+-- `chain::splice` meets its contract.
 use native.Mathlib.Omega.{arith}
+use Rattle.numbers.specs.Half.{halfOf}
 use Rattle.chain.proofs.Places.{count-word}
 use Rattle.chain.proofs.Relinks.{step-never, splice-step}
 use borrow.Author.Needs.{needs}
@@ -7,22 +8,21 @@ use Rattle.chain.proofs.splice.Statement.{statement}
 use Rattle.chain.proofs.splice.Tie as tie
 
 returns : tie.Need-returns
-returns c =
-    step-never _ _ _ _
-    (λ s p m. omega (arith, c .if1 .taken, c .before .mark-word .ensures, count-word _ _ s p _ (m .mark), m .few))
+returns c = step-never _ _ _ _ (λ s p m. omega (arith, c .if1 .taken, c .before .held-of .ensures, count-word _ _ s p _ (m .mark), m .few))
+
+add-put-lead : tie.Need-add-put-lead
+unfolding halfOf
+add-put-lead c = omega (arith, c .before .before .half-of .ensures)
 
 returns-2 : tie.Need-returns-2
 returns-2 c =
-    step-never _ _ _ _ (λ s p m. omega (arith, c .if2 .taken, m .place, m .linked .corners (c .before .before .before .before .before .args .c)))
-
-returns-4 : tie.Need-returns-4
-returns-4 c =
-    splice-step _ _ _ _ _ _ _ _ _ _
-    (c .before .before .before .before .before .before .before .before .before .before .before .before .find .ensures)
-    (c .before .before .before .before .before .before .before .before .before .before .before .before .before .before .before .before .before .before .mark-word .ensures)
-    (c .before .before .before .before .before .before .before .before .before .before .put-link .ensures)
-    (c .before .before .before .before .before .before .put-cell .ensures)
-    (c .before .before .put-mark .ensures)
+    let at-write-held = c .before .before in
+    let at-write-link = at-write-held .before .before .before .before in
+    let at-put-lead = at-write-link .before .before .before .before in
+    let at-half-of = at-put-lead .before .before .before in
+    let at-find = at-half-of .before in
+    let at-held-of = at-find .before .before .before in
+    splice-step _ _ _ _ _ _ _ _ _ _ (at-find .find .ensures) (at-held-of .held-of .ensures) _ (at-half-of .half-of .ensures) (at-put-lead .put-lead .ensures) (at-write-link .write-link .ensures) (at-write-held .write-held .ensures)
 
 pub splice-spec : {M : Type 1} → statement M
 splice-spec =
@@ -31,16 +31,12 @@ splice-spec =
     (λ c κs. search needs)
     (λ c. search needs)
     returns
-    (λ c. search needs)
-    returns-2
-    (λ c. search needs)
-    (λ c. search needs)
+    (λ c κs. search needs)
+    (λ c κs. search needs)
+    add-put-lead
+    (λ c κs. search needs)
     (λ c κs. search needs)
     (λ c. search needs)
     (λ c κs. search needs)
     (λ c. search needs)
-    (λ c κs. search needs)
-    (λ c. search needs)
-    (λ c κs. search needs)
-    (λ c. search needs)
-    returns-4)
+    returns-2)

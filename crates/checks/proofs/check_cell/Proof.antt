@@ -8,10 +8,10 @@ returns : tie.Need-returns
 returns c = cell-outside _ _ _ (c .if1 .taken)
 
 returns-2 : tie.Need-returns-2
-returns-2 c = cell-dead _ _ _ (c .before .before .if1 .left) _ (c .before .cell-word .ensures) (c .if2 .taken)
+returns-2 c = cell-dead _ _ _ (c .before .before .if1 .left) _ (c .before .code-of .ensures) (c .if2 .taken)
 
 returns-3 : tie.Need-returns-3
-returns-3 c = cell-live _ _ _ (c .before .before .if1 .left) _ (c .before .cell-word .ensures) (c .if2 .left)
+returns-3 c = cell-live _ _ _ (c .before .before .if1 .left) _ (c .before .code-of .ensures) (c .if2 .left)
 
 pub check-cell-spec : {M : Type 1} → statement M
 check-cell-spec = tie.close (tie.spec returns (λ c κs. search needs) returns-2 returns-3)

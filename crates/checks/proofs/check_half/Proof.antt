@@ -9,13 +9,13 @@ returns : tie.Need-returns
 returns c = half-outside _ _ _ _ (c .if1 .taken)
 
 returns-2 : tie.Need-returns-2
-returns-2 c = half-dead _ _ _ (c .before .before .if1 .left) _ (c .before .cell-word .ensures) _ _ refl (c .if2 .taken)
+returns-2 c = half-dead _ _ _ (c .before .before .if1 .left) _ (c .before .code-of .ensures) _ _ refl (c .if2 .taken)
 
 returns-3 : tie.Need-returns-3
-returns-3 c = half-facet _ _ _ (c .before .before .before .before .if1 .left) _ (c .before .before .before .cell-word .ensures) _ _ (c .before .facet-count .ensures) (c .before .before .if2 .left) (c .if3 .taken)
+returns-3 c = half-facet _ _ _ (c .before .before .before .before .if1 .left) _ (c .before .before .before .code-of .ensures) _ _ (c .before .facet-count .ensures) (c .before .before .if2 .left) (c .if3 .taken)
 
 returns-4 : tie.Need-returns-4
-returns-4 c = half-live _ _ _ (c .before .before .before .before .if1 .left) _ (c .before .before .before .cell-word .ensures) _ _ (c .before .facet-count .ensures) (c .before .before .if2 .left) (c .if3 .left)
+returns-4 c = half-live _ _ _ (c .before .before .before .before .if1 .left) _ (c .before .before .before .code-of .ensures) _ _ (c .before .facet-count .ensures) (c .before .before .if2 .left) (c .if3 .left)
 
 pub check-half-spec : {M : Type 1} → statement M
 check-half-spec =

@@ -16,7 +16,12 @@ abbrev μ-loop : tie.MeasureT-loop
 μ-loop mesh₀ line₀ kept piece out₀ n₀ at₀ mesh line out n at = length piece - at
 
 loop-less : tie.Need-loop-less Inv-loop μ-loop
-loop-less c = omega (arith, c .before .before .before .before .before .before .before .before .before .before .feed .ensures .goes (rest-some (c .before .before .before .before .before .before .before .before .before .before .before .before .before .before .before .before .before .before .before .before .before .before .args .piece .now) (c .before .before .before .before .before .before .before .before .before .before .before .before .before .before .before .before .loop .at) (c .before .before .before .before .before .before .before .before .before .before .before .before .before .before .before .loop-test .taken)) (c .before .before .before .before .before .before .before .before .before .before .before .before .before .before .before .before .loop .inv .1))
+loop-less c =
+    let at-feed = c .before .before .before .before .before .before .before .before .before .before in
+    let at-loop-test = at-feed .before .before .before .before .before in
+    let at-loop = at-loop-test .before in
+    let at-args = at-loop .before .before .before .before .before .before in
+    omega (arith, at-feed .feed .ensures .goes (rest-some (at-args .args .piece .now) (at-loop .loop .at) (at-loop-test .loop-test .taken)) (at-loop .loop .inv .1))
 
 pub answer-piece-spec : {M : Type 1} → statement M
 answer-piece-spec =

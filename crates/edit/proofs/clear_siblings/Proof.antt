@@ -1,31 +1,44 @@
 -- `edit::clear_siblings` meets its contract.
+use mathlib.Core.Path.{_≡_, refl}
+use Prim.Native.Nat.{_-_, _<_, _≤_}
 use native.Mathlib.Omega.{arith}
-use Rattle.edit.proofs.Removes.{cleared-step}
+use Rattle.picture.specs.Step.{Step}
+use Rattle.edit.specs.Cleared.{clearedTo}
+use Rattle.edit.proofs.Removes.{clears-start, clears-more}
 use borrow.Author.Needs.{needs}
 use Rattle.edit.proofs.clear_siblings.Statement.{statement}
 use Rattle.edit.proofs.clear_siblings.Tie as tie
 
-returns-2 : tie.Need-returns-2
-returns-2 c =
-    let fourth = c .before .before in
-    let third = fourth .before .before .before .before in
-    let second = third .before .before .before .before in
-    let first = second .before .before .before .before in
-    cleared-step _ _ _ _ _ _ _ _ _ _ _ _ (omega arith) (omega arith) (omega arith) (omega arith) (omega arith) (first .put-sibling .ensures)
-    (second .put-sibling2 .ensures) (third .put-sibling3 .ensures) (fourth .put-sibling4 .ensures)
+abbrev Inv-loop : tie.InvT-loop
+Inv-loop w₀ caps c f₀ w f = (f ≤ 6) × Step caps w₀ w (λ s. c .0 < caps .cells) (λ s. clearedTo s (c .0) f)
+
+abbrev μ-loop : tie.MeasureT-loop
+μ-loop w₀ caps c f₀ w f = 6 - f
+
+loop-holds : tie.Need-loop-holds Inv-loop μ-loop
+loop-holds c = (omega arith, clears-start _ _ _)
+
+loop-again : tie.Need-loop-again Inv-loop μ-loop
+loop-again c =
+    let at-put-sibling = c .before .before in
+    let at-half-of = at-put-sibling .before in
+    let at-loop = at-half-of .before .before .before in
+    (omega arith, clears-more _ _ _ _ _ (at-loop .loop .f) _ _ (at-loop .loop .inv .1) (at-half-of .half-of .ensures) refl (at-put-sibling .put-sibling .ensures) (omega arith))
+
+returns : tie.Need-returns Inv-loop μ-loop
+returns c = let all : c .before .loop .f ≡ 6 = omega arith in rw all at (c .before .loop .inv .1)
 
 pub clear-siblings-spec : {M : Type 1} → statement M
 clear-siblings-spec =
     tie.close
     (tie.spec
-    (λ c. search needs)
-    (λ c. search needs)
+    Inv-loop
+    μ-loop
+    loop-holds
+    (λ c κs. search needs)
     (λ c κs. search needs)
     (λ c. search needs)
-    (λ c κs. search needs)
     (λ c. search needs)
-    (λ c κs. search needs)
+    loop-again
     (λ c. search needs)
-    (λ c κs. search needs)
-    (λ c. search needs)
-    returns-2)
+    returns)

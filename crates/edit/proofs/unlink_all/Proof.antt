@@ -1,5 +1,5 @@
 -- `edit::unlink_all` meets its contract. The loop's invariant: the cell is out of the chains of the first k marks. The measure is what is
--- left of the four.
+-- left of the eight.
 use borrow.Author.Needs.{needs}
 use mathlib.Core.Bool.{false}
 use Prim.Native.Nat.{_≤_, _-_}
@@ -11,10 +11,10 @@ use Rattle.edit.proofs.unlink_all.Statement.{statement}
 use Rattle.edit.proofs.unlink_all.Tie as tie
 
 abbrev Inv-loop : tie.InvT-loop
-Inv-loop w₀ caps c marks k₀ w k = (k ≤ 4) × Turns caps w₀ c marks false (MayUnlink caps c marks) w k
+Inv-loop w₀ caps c marks k₀ w k = (k ≤ 8) × Turns caps w₀ (c .0) marks false (MayUnlink caps (c .0) marks) w k
 
 abbrev μ-loop : tie.MeasureT-loop
-μ-loop w₀ caps c marks k₀ w k = 4 - k
+μ-loop w₀ caps c marks k₀ w k = 8 - k
 
 loop-holds : tie.Need-loop-holds Inv-loop μ-loop
 loop-holds c = (omega arith, turns-start _ _ _ (c .before .before .args .marks .now) _ _)

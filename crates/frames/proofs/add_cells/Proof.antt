@@ -24,7 +24,10 @@ cast-add-number : tie.Need-cast-add-number Inv-loop μ-loop
 cast-add-number c = omega (arith, c .shared-slice-known2 .given (c .before .before .before .loop .i))
 
 loop-again : tie.Need-loop-again Inv-loop μ-loop
-loop-again c = (omega arith, each-more twoBytes _ (c .before .before .before .before .before .before .loop .i) _ (omega arith) refl (c .before .before .before .before .before .before .loop .inv .1) (c .before .before .add-number .ensures))
+loop-again c =
+    let at-add-number = c .before .before in
+    let at-loop = at-add-number .before .before .before .before in
+    (omega arith, each-more twoBytes _ (at-loop .loop .i) _ (omega arith) refl (at-loop .loop .inv .1) (at-add-number .add-number .ensures))
 
 same-length : tie.Need-same-length Inv-loop μ-loop
 same-length c = append-length _ (c .before .loop .inv .1)

@@ -5,7 +5,11 @@ use Rattle.frames.proofs.add_half.Statement.{statement}
 use Rattle.frames.proofs.add_half.Tie as tie
 
 returns : tie.Need-returns
-returns c = half-done (c .before .before .before .before .before .before .before .before .before .args .h) (c .before .before .before .before .before .before .add-number .ensures) (c .before .before .add-byte .ensures)
+returns c =
+    let at-add-byte = c .before .before in
+    let at-add-number = at-add-byte .before .before .before .before in
+    let at-args = at-add-number .before .before .before in
+    half-done (at-args .args .h) (at-add-number .add-number .ensures) (at-add-byte .add-byte .ensures)
 
 pub add-half-spec : {M : Type 1} → statement M
 add-half-spec =

@@ -21,7 +21,10 @@ loop-holds : tie.Need-loop-holds Inv-loop μ-loop
 loop-holds c = (search needs, each-none cellAndFacet (c .before .before .args .halves .now) _ _)
 
 loop-again : tie.Need-loop-again Inv-loop μ-loop
-loop-again c = (omega arith, each-more cellAndFacet _ (c .before .before .before .before .before .before .loop .i) _ (omega arith) refl (c .before .before .before .before .before .before .loop .inv .1) (c .before .before .add-half .ensures))
+loop-again c =
+    let at-add-half = c .before .before in
+    let at-loop = at-add-half .before .before .before .before in
+    (omega arith, each-more cellAndFacet _ (at-loop .loop .i) _ (omega arith) refl (at-loop .loop .inv .1) (at-add-half .add-half .ensures))
 
 same-length : tie.Need-same-length Inv-loop μ-loop
 same-length c = append-length _ (c .before .loop .inv .1)

@@ -5,7 +5,11 @@ use Rattle.frames.proofs.add_number.Statement.{statement}
 use Rattle.frames.proofs.add_number.Tie as tie
 
 returns : tie.Need-returns
-returns c = number-done (c .before .before .before .before .before .before .before .before .before .args .n) (c .before .before .before .before .before .before .add-byte .ensures) (c .before .before .add-byte2 .ensures)
+returns c =
+    let at-add-byte2 = c .before .before in
+    let at-add-byte = at-add-byte2 .before .before .before .before in
+    let at-args = at-add-byte .before .before .before in
+    number-done (at-args .args .n) (at-add-byte .add-byte .ensures) (at-add-byte2 .add-byte2 .ensures)
 
 pub add-number-spec : {M : Type 1} → statement M
 add-number-spec =

@@ -29,7 +29,12 @@ loop-holds : tie.Need-loop-holds Inv-loop μ-loop
 loop-holds c = (search needs, refl)
 
 returns-3 : tie.Need-returns-3 Inv-loop μ-loop
-returns-3 c = any-stop _ _ (c .before .before .before .before .loop .i) (c .before .before .before .before .loop .inv .1) (le-leb 16 _ (rw (c .before .digit .ensures) at (c .if3 .taken))) (omega arith) ∙ bad-rest _ (c .before .before .before .before .before .before .if1 .left) (c .before .before .before .before .before .if2 .left)
+returns-3 c =
+    let at-digit = c .before in
+    let at-loop = at-digit .before .before .before in
+    let at-if2 = at-loop .before in
+    let at-if1 = at-if2 .before in
+    any-stop _ _ (at-loop .loop .i) (at-loop .loop .inv .1) (le-leb 16 _ (rw (at-digit .digit .ensures) at (c .if3 .taken))) (omega arith) ∙ bad-rest _ (at-if1 .if1 .left) (at-if2 .if2 .left)
 
 loop-again : tie.Need-loop-again Inv-loop μ-loop
 loop-again c = (omega arith, any-go _ _ (c .before .before .before .before .loop .i) (c .before .before .before .before .loop .inv .1) (lt-leb 16 _ (rw (c .before .digit .ensures) at (c .if3 .left))) (omega arith))

@@ -16,10 +16,16 @@ mul-result : tie.Need-mul-result
 mul-result c = omega (arith, c .digit .ensures, digit-most (getD (now (c .before .before .before .before .args .line)) (2 * c .before .before .before .before .args .k) 0))
 
 add-result : tie.Need-add-result
-add-result c = omega (arith, c .before .before .digit .ensures, digit-most (getD (now (c .before .before .before .before .before .before .args .line)) (2 * c .before .before .before .before .before .before .args .k) 0), c .digit2 .ensures, digit-most (getD (now (c .before .before .before .before .before .before .args .line)) (2 * c .before .before .before .before .before .before .args .k + 1) 0))
+add-result c =
+    let at-digit = c .before .before in
+    let at-args = at-digit .before .before .before .before in
+    omega (arith, at-digit .digit .ensures, digit-most (getD (now (at-args .args .line)) (2 * at-args .args .k) 0), c .digit2 .ensures, digit-most (getD (now (at-args .args .line)) (2 * at-args .args .k + 1) 0))
 
 returns-2 : tie.Need-returns-2
-returns-2 c = byte-here _ (c .before .before .before .before .before .before .args .k) _ _ (omega arith) (c .before .before .digit .ensures) (c .digit2 .ensures)
+returns-2 c =
+    let at-digit = c .before .before in
+    let at-args = at-digit .before .before .before .before in
+    byte-here _ (at-args .args .k) _ _ (omega arith) (at-digit .digit .ensures) (c .digit2 .ensures)
 
 pub byte-at-spec : {M : Type 1} → statement M
 byte-at-spec =

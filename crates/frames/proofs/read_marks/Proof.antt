@@ -24,7 +24,11 @@ loop-holds c = (omega arith, refl, store-start _ _)
 
 loop-again : tie.Need-loop-again Inv-loop μ-loop
 unfolding markAt
-loop-again c = (omega arith, c .before .before .before .before .before .before .loop .inv .1, store-more _ _ (c .before .before .before .before .before .before .loop .i) _ _ _ (c .before .before .before .before .before .before .loop .inv .2) (c .before .before .put .ensures) (c .before .before .before .number-at .ensures))
+loop-again c =
+    let at-put = c .before .before in
+    let at-number-at = at-put .before in
+    let at-loop = at-number-at .before .before .before in
+    (omega arith, at-loop .loop .inv .1, store-more _ _ (at-loop .loop .i) _ _ _ (at-loop .loop .inv .2) (at-put .put .ensures) (at-number-at .number-at .ensures))
 
 same-length : tie.Need-same-length Inv-loop μ-loop
 same-length c = ap length (c .before .loop .inv .2) ∙ simp length-sets

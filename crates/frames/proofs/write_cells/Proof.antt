@@ -6,7 +6,12 @@ use Rattle.frames.proofs.write_cells.Statement.{statement}
 use Rattle.frames.proofs.write_cells.Tie as tie
 
 returns : tie.Need-returns
-returns c = given-done _ (c .before .before .before .before .before .before .before .before .before .before .before .before .before .before .add-byte .ensures) (counted-done twoBytes _ (c .before .before .before .before .before .before .before .before .before .before .add-number .ensures) (c .before .before .before .before .before .before .add-cells .ensures)) (c .before .before .add .ensures)
+returns c =
+    let at-add = c .before .before in
+    let at-add-cells = at-add .before .before .before .before in
+    let at-add-number = at-add-cells .before .before .before .before in
+    let at-add-byte = at-add-number .before .before .before .before in
+    given-done _ (at-add-byte .add-byte .ensures) (counted-done twoBytes _ (at-add-number .add-number .ensures) (at-add-cells .add-cells .ensures)) (at-add .add .ensures)
 
 pub write-cells-spec : {M : Type 1} → statement M
 write-cells-spec =

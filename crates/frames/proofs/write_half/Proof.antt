@@ -5,7 +5,11 @@ use Rattle.frames.proofs.write_half.Statement.{statement}
 use Rattle.frames.proofs.write_half.Tie as tie
 
 returns : tie.Need-returns
-returns c = given-done _ (c .before .before .before .before .before .before .before .before .before .before .add-byte .ensures) (c .before .before .before .before .before .before .add-half .ensures) (c .before .before .add .ensures)
+returns c =
+    let at-add = c .before .before in
+    let at-add-half = at-add .before .before .before .before in
+    let at-add-byte = at-add-half .before .before .before .before in
+    given-done _ (at-add-byte .add-byte .ensures) (at-add-half .add-half .ensures) (at-add .add .ensures)
 
 pub write-half-spec : {M : Type 1} → statement M
 write-half-spec =

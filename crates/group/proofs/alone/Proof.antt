@@ -5,7 +5,7 @@ use Rattle.group.proofs.alone.Statement.{statement}
 use Rattle.group.proofs.alone.Tie as tie
 
 returns : tie.Need-returns
-returns c = alone-is _ _ _ _ _ _ (c .before .cell-word .ensures) (c .before .before .half-of .ensures)
+returns c = alone-is _ _ _ _ _ _ (c .before .before .sibling-of .ensures) (c .before .before .before .half-of .ensures)
 
 pub alone-spec : {M : Type 1} → statement M
-alone-spec = tie.close (tie.spec (λ c κs. search needs) (λ c. search needs) (λ c κs. search needs) returns)
+alone-spec = tie.close (tie.spec (λ c κs. search needs) (λ c κs. search needs) returns)

@@ -9,7 +9,11 @@ returns : tie.Need-returns
 returns c = anchors-none _ _ _ _ _ _ _ _ _ (c .before .before .star-of .ensures) refl (c .if1 .taken)
 
 returns-2 : tie.Need-returns-2
-returns-2 c = anchors-gives _ _ _ _ _ _ _ _ _ _ _ _ _ (c .before .before .before .before .before .before .before .before .before .before .before .before .star-of .ensures) refl (c .before .before .before .before .before .before .before .labels .ensures) refl (c .before .before .list .ensures)
+returns-2 c =
+    let at-list = c .before .before in
+    let at-labels = at-list .before .before .before .before .before in
+    let at-star-of = at-labels .before .before .before .before .before in
+    anchors-gives _ _ _ _ _ _ _ _ _ _ _ _ _ (at-star-of .star-of .ensures) refl (at-labels .labels .ensures) refl (at-list .list .ensures)
 
 pub anchors-of-spec : {M : Type 1} → statement M
 anchors-of-spec =

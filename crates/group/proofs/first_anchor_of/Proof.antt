@@ -9,10 +9,18 @@ returns : tie.Need-returns
 returns c = first-none _ _ _ _ _ _ _ _ (c .before .before .anchors-of .ensures) refl (c .if1 .taken)
 
 returns-2 : tie.Need-returns-2
-returns-2 c = first-some _ _ _ _ _ _ _ _ (c .before .before .before .before .before .anchors-of .ensures) refl _ (c .before .word .ensures) (c .before .before .before .if1 .left)
+returns-2 c =
+    let at-word = c .before in
+    let at-if1 = at-word .before .before in
+    let at-anchors-of = at-if1 .before .before in
+    first-some _ _ _ _ _ _ _ _ (at-anchors-of .anchors-of .ensures) refl _ (at-word .word .ensures) (at-if1 .if1 .left)
 
 returns-3 : tie.Need-returns-3
-returns-3 c = first-large _ _ _ _ _ _ _ _ (c .before .before .before .before .before .anchors-of .ensures) refl _ (c .before .word .ensures) (c .before .before .before .if1 .left) (c .if2 .left)
+returns-3 c =
+    let at-word = c .before in
+    let at-if1 = at-word .before .before in
+    let at-anchors-of = at-if1 .before .before in
+    first-large _ _ _ _ _ _ _ _ (at-anchors-of .anchors-of .ensures) refl _ (at-word .word .ensures) (at-if1 .if1 .left) (c .if2 .left)
 
 pub first-anchor-of-spec : {M : Type 1} → statement M
 first-anchor-of-spec =

@@ -17,7 +17,10 @@ loop-holds : tie.Need-loop-holds Inv-loop μ-loop
 loop-holds c = (omega arith, rows-none _ _ _)
 
 loop-again : tie.Need-loop-again Inv-loop μ-loop
-loop-again c = (omega arith, rows-more _ _ (c .before .before .before .before .before .loop .a) _ _ _ (c .before .before .before .before .before .loop .inv .1) (c .before .before .merge-row .ensures (omega arith)))
+loop-again c =
+    let at-merge-row = c .before .before in
+    let at-loop = at-merge-row .before .before .before in
+    (omega arith, rows-more _ _ (at-loop .loop .a) _ _ _ (at-loop .loop .inv .1) (at-merge-row .merge-row .ensures (omega arith)))
 
 returns : tie.Need-returns Inv-loop μ-loop
 returns c = rows-end _ _ (c .before .loop .a) _ _ _ (c .before .before .before .before .number .ensures) (c .before .loop .inv .1) (omega arith)

@@ -13,7 +13,7 @@ use Rattle.group.proofs.linked.Statement.{statement}
 use Rattle.group.proofs.linked.Tie as tie
 
 abbrev Inv-loop : tie.InvT-loop
-Inv-loop w caps a b n f₀ f = (f ≤ n) × ((k : ℕ) → k < f → metIn w caps (halfOf (a % 65536) (k % 8)) b ≡ false)
+Inv-loop w caps a b n f₀ f = (f ≤ n) × ((k : ℕ) → k < f → metIn w caps (halfOf (a .0 % 65536) (k % 8)) (b .0) ≡ false)
 
 abbrev μ-loop : tie.MeasureT-loop
 μ-loop w caps a b n f₀ f = n - f
@@ -22,13 +22,19 @@ loop-holds : tie.Need-loop-holds Inv-loop μ-loop
 loop-holds c = (omega arith, λ k h. absurd (not-suc-le-zero h))
 
 returns : tie.Need-returns Inv-loop μ-loop
-returns c = linked-found _ _ _ _ _ _ (c .before .before .before .before .before .before .cell-word .ensures) (c .before .before .before .before .before .facet-count .ensures) (c .before .before .before .before .loop .f) (met-from _ _ _ _ (c .before .before .before .before .loop .f) _ _ (c .before .before .half-of .ensures) (c .before .meets .ensures) ∙ c .if1 .taken) (omega arith)
+returns c =
+    let at-meets = c .before in
+    let at-half-of = at-meets .before in
+    let at-loop = at-half-of .before .before in
+    let at-facet-count = at-loop .before in
+    let at-code-of = at-facet-count .before in
+    linked-found _ _ _ _ _ _ (at-code-of .code-of .ensures) (at-facet-count .facet-count .ensures) (at-loop .loop .f) (met-from _ _ _ _ (at-loop .loop .f) _ _ (at-half-of .half-of .ensures) (at-meets .meets .ensures) ∙ c .if1 .taken) (omega arith)
 
 loop-again : tie.Need-loop-again Inv-loop μ-loop
 loop-again c = (omega arith, below-more _ _ (c .before .before .before .before .loop .inv .1) (met-from _ _ _ _ (c .before .before .before .before .loop .f) _ _ (c .before .before .half-of .ensures) (c .before .meets .ensures) ∙ c .if1 .left))
 
 returns-2 : tie.Need-returns-2 Inv-loop μ-loop
-returns-2 c = linked-none _ _ _ _ _ _ (c .before .before .before .cell-word .ensures) (c .before .before .facet-count .ensures) (c .before .loop .f) (c .before .loop .inv .1) (omega (arith, c .before .loop .inv .0))
+returns-2 c = linked-none _ _ _ _ _ _ (c .before .before .before .code-of .ensures) (c .before .before .facet-count .ensures) (c .before .loop .f) (c .before .loop .inv .1) (omega (arith, c .before .loop .inv .0))
 
 pub linked-spec : {M : Type 1} → statement M
 linked-spec =

@@ -19,7 +19,10 @@ loop-holds : tie.Need-loop-holds Inv-loop μ-loop
 loop-holds c = (omega arith, refl, λ below. row-none _ _ _ _)
 
 loop-again : tie.Need-loop-again Inv-loop μ-loop
-loop-again c = (omega arith, omega arith, λ below. row-more _ _ _ _ (c .before .before .before .before .before .loop .b) _ _ _ (omega arith) (c .before .before .before .before .before .loop .inv .2 below) (c .before .before .merge-pair .ensures (omega arith) below))
+loop-again c =
+    let at-merge-pair = c .before .before in
+    let at-loop = at-merge-pair .before .before .before in
+    (omega arith, omega arith, λ below. row-more _ _ _ _ (at-loop .loop .b) _ _ _ (omega arith) (at-loop .loop .inv .2 below) (at-merge-pair .merge-pair .ensures (omega arith) below))
 
 returns : tie.Need-returns Inv-loop μ-loop
 returns c = λ below. row-end _ _ _ (c .before .loop .b) _ _ (c .before .loop .inv .2 below) (omega arith)

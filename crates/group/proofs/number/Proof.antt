@@ -17,7 +17,10 @@ loop-holds : tie.Need-loop-holds Inv-loop μ-loop
 loop-holds c = (omega arith, number-start _)
 
 loop-again : tie.Need-loop-again Inv-loop μ-loop
-loop-again c = (omega arith, number-more _ _ _ _ (c .before .before .before .before .before .loop .inv .1) (c .before .before .put .ensures))
+loop-again c =
+    let at-put = c .before .before in
+    let at-loop = at-put .before .before .before in
+    (omega arith, number-more _ _ _ _ (at-loop .loop .inv .1) (at-put .put .ensures))
 
 returns : tie.Need-returns Inv-loop μ-loop
 returns c = number-end (c .before .loop .j) _ _ _ (c .before .loop .inv .1) (c .before .loop .inv .0) (omega arith)

@@ -11,7 +11,11 @@ returns-2 : tie.Need-returns-2
 returns-2 c = recall-none _ _ _ _ _ (c .before .place .ensures)
 
 returns-3 : tie.Need-returns-3
-returns-3 c = recall-new _ _ _ _ (place-alike _ _ _ _ _ _ _ _) _ _ _ (c .before .before .before .before .before .before .before .before .before .word .ensures) (c .before .before .before .before .before .place .ensures) (c .before .before .put .ensures)
+returns-3 c =
+    let at-put = c .before .before in
+    let at-place = at-put .before .before .before in
+    let at-word = at-place .before .before .before .before in
+    recall-new _ _ _ _ (place-alike _ _ _ _ _ _ _ _) _ _ _ (at-word .word .ensures) (at-place .place .ensures) (at-put .put .ensures)
 
 pub recall-spec : {M : Type 1} → statement M
 recall-spec =

@@ -12,7 +12,7 @@ use Rattle.group.proofs.seek.Statement.{statement}
 use Rattle.group.proofs.seek.Tie as tie
 
 abbrev Inv-loop : tie.InvT-loop
-Inv-loop w caps rows v cells lab end i only x₀ x = (x ≤ end) × ((k : ℕ) → k < x → chosenIn w caps rows v cells lab i only k ≡ false)
+Inv-loop w caps rows v cells lab end i only x₀ x = (x ≤ end) × ((k : ℕ) → k < x → chosenIn w caps rows (v .0) cells lab i only k ≡ false)
 
 abbrev μ-loop : tie.MeasureT-loop
 μ-loop w caps rows v cells lab end i only x₀ x = end - x

@@ -18,7 +18,12 @@ loop-holds : tie.Need-loop-holds Inv-loop μ-loop
 loop-holds c = going-start _ _ _ _ _ _ _ refl refl
 
 loop-again : tie.Need-loop-again Inv-loop μ-loop
-loop-again c = going-more _ _ _ _ _ _ _ _ (c .before .before .before .before .before .before .before .before .before .before .before .before .before .before .loop .n) (c .before .before .before .before .before .before .before .before .before .before .before .before .before .before .loop .i) _ (c .before .before .before .before .before .before .before .before .before .before .before .before .before .before .loop .inv) _ _ _ _ _ _ (omega arith) refl (sym (c .before .before .before .before .before .before .before .before .before .before .before .before .has-room .ensures) ∙ c .before .before .before .before .before .before .before .before .before .before .before .if1 .taken) (c .before .before .before .before .before .before .take-byte .ensures) (omega arith)
+loop-again c =
+    let at-take-byte = c .before .before .before .before .before .before in
+    let at-if1 = at-take-byte .before .before .before .before .before in
+    let at-has-room = at-if1 .before in
+    let at-loop = at-has-room .before .before in
+    going-more _ _ _ _ _ _ _ _ (at-loop .loop .n) (at-loop .loop .i) _ (at-loop .loop .inv) _ _ _ _ _ _ (omega arith) refl (sym (at-has-room .has-room .ensures) ∙ at-if1 .if1 .taken) (at-take-byte .take-byte .ensures) (omega arith)
 
 same-length : tie.Need-same-length Inv-loop μ-loop
 same-length c = c .before .before .before .loop .inv .inside .size

@@ -6,7 +6,10 @@ use Rattle.input.proofs.take_byte.Statement.{statement}
 use Rattle.input.proofs.take_byte.Tie as tie
 
 returns : tie.Need-returns
-returns c = taken-line _ _ _ _ _ _ _ _ _ _ _ (omega arith) (omega arith) (c .before .before .before .before .before .before .first .ensures) (c .before .before .before .before .reply .ensures)
+returns c =
+    let at-reply = c .before .before .before .before in
+    let at-first = at-reply .before .before in
+    taken-line _ _ _ _ _ _ _ _ _ _ _ (omega arith) (omega arith) (at-first .first .ensures) (at-reply .reply .ensures)
 
 returns-2 : tie.Need-returns-2
 returns-2 c = taken-more _ _ _ _ _ _ _ _ (λ z. omega arith) (c .before .before .keep .ensures)

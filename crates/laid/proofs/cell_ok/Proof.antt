@@ -1,25 +1,20 @@
-use Rattle.lists.proofs.Bools.{and-no, and-yes}
-use Rattle.laid.specs.Laid.{cellIn}
-use Rattle.laid.proofs.Steps.{marks-words}
+-- `laid::cell_ok` meets its contract.
+use mathlib.Core.Path.{sym, _∙_}
 use borrow.Author.Tests.{not-true, not-false}
-use mathlib.Core.Bool.{Bool, true, false, not}
-use mathlib.Core.Path.{_≡_, refl, sym, ap, _∙_}
+use Rattle.lists.proofs.Bools.{and-no, and-yes}
+use Rattle.facet.proofs.Copy.{marks-words}
+use Rattle.laid.specs.Laid.{cellRight}
 use borrow.Author.Needs.{needs}
 use Rattle.laid.proofs.cell_ok.Statement.{statement}
 use Rattle.laid.proofs.cell_ok.Tie as tie
-use Rattle.laid.proofs.cell_ok.Reads as reads
-use Rattle.laid.proofs.cell_ok.Lts as lts
-use Rattle.laid.proofs.all_linked.Reads as all-linked-reads
-use Rattle.laid.proofs.marks_at.Reads as marks-at-reads
-use Rattle.laid.proofs.record_ok.Reads as record-ok-reads
 
 returns : tie.Need-returns
-unfolding cellIn
+unfolding cellRight
 returns c = and-no _ _ (sym (c .before .record-ok .ensures) ∙ not-true _ (c .if1 .taken))
 
 returns-2 : tie.Need-returns-2
-unfolding cellIn
-returns-2 c = and-yes _ _ _ (sym (c .before .before .before .record-ok .ensures) ∙ not-false _ (c .before .before .if1 .left)) (rw (← marks-words (c .before .marks-at .ensures)) (c .all-linked .ensures))
+unfolding cellRight
+returns-2 c = and-yes _ _ _ (sym (c .before .before .before .record-ok .ensures) ∙ not-false _ (c .before .before .if1 .left)) (rw (← marks-words _ _ _ _ (c .before .marks-at .ensures)) (c .all-meet .ensures))
 
 pub cell-ok-spec : {M : Type 1} → statement M
 cell-ok-spec =

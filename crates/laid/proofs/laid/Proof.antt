@@ -1,28 +1,23 @@
+-- `laid::laid` meets its contract.
+use mathlib.Core.Path.{sym, _∙_}
+use borrow.Author.Tests.{not-true, not-false}
 use Rattle.lists.proofs.Bools.{and-no, and-yes}
 use Rattle.laid.specs.Laid.{laidIn}
-use borrow.Author.Tests.{not-true, not-false}
-use mathlib.Core.Bool.{Bool, true, false, not}
-use mathlib.Core.Path.{_≡_, refl, sym, ap, _∙_}
 use borrow.Author.Needs.{needs}
 use Rattle.laid.proofs.laid.Statement.{statement}
 use Rattle.laid.proofs.laid.Tie as tie
-use Rattle.laid.proofs.laid.Reads as reads
-use Rattle.laid.proofs.laid.Lts as lts
-use Rattle.laid.proofs.cells_ok.Reads as cells-ok-reads
-use Rattle.laid.proofs.head_ok.Reads as head-ok-reads
-use Rattle.laid.proofs.marks_ok.Reads as marks-ok-reads
 
 returns : tie.Need-returns
 unfolding laidIn
-returns c = and-no _ _ (sym (c .before .head-ok .ensures) ∙ not-true _ (c .if1 .taken))
+returns c = and-no _ _ (sym (c .before .head-blank .ensures) ∙ not-true _ (c .if1 .taken))
 
 returns-2 : tie.Need-returns-2
 unfolding laidIn
-returns-2 c = and-yes _ _ _ (sym (c .before .before .before .head-ok .ensures) ∙ not-false _ (c .before .before .if1 .left)) (and-no _ _ (sym (c .before .marks-ok .ensures) ∙ not-true _ (c .if2 .taken)))
+returns-2 c = and-yes _ _ _ (sym (c .before .before .before .head-blank .ensures) ∙ not-false _ (c .before .before .if1 .left)) (and-no _ _ (sym (c .before .marks-ok .ensures) ∙ not-true _ (c .if2 .taken)))
 
 returns-3 : tie.Need-returns-3
 unfolding laidIn
-returns-3 c = and-yes _ _ _ (sym (c .before .before .before .before .head-ok .ensures) ∙ not-false _ (c .before .before .before .if1 .left)) (and-yes _ _ _ (sym (c .before .before .marks-ok .ensures) ∙ not-false _ (c .before .if2 .left)) (c .cells-ok .ensures))
+returns-3 c = and-yes _ _ _ (sym (c .before .before .before .before .head-blank .ensures) ∙ not-false _ (c .before .before .before .if1 .left)) (and-yes _ _ _ (sym (c .before .before .marks-ok .ensures) ∙ not-false _ (c .before .if2 .left)) (c .cells-ok .ensures))
 
 pub laid-spec : {M : Type 1} → statement M
 laid-spec =

@@ -1,29 +1,37 @@
-use mathlib.Core.Path.{_≡_, refl, sym, ap, _∙_}
-use mathlib.Core.Bool.{Bool, true, false, not}
-use native.Mathlib.Omega.{arith}
-use borrow.Author.Tests.{le-leb, lt-leb, lt-ltb, le-ltb}
-use Rattle.lists.proofs.Bools.{and-no, and-yes}
-use Rattle.laid.specs.Laid.{standsIn}
-use Rattle.laid.proofs.Steps.{marks-words}
+-- `laid::stands` meets its contract.
+use Rattle.laid.proofs.Steps.{stands-early, stands-past, stands-few, stands-here}
+use Rattle.facet.proofs.Copy.{marks-words}
 use borrow.Author.Needs.{needs}
 use Rattle.laid.proofs.stands.Statement.{statement}
 use Rattle.laid.proofs.stands.Tie as tie
-use Rattle.laid.proofs.stands.Reads as reads
-use Rattle.laid.proofs.stands.Lts as lts
-use Rattle.laid.proofs.marks_at.Reads as marks-at-reads
-use Rattle.lists.proofs.has.Reads as has-reads
 
 returns : tie.Need-returns
-unfolding standsIn
-returns c = and-no _ _ (lt-leb _ _ (c .if1 .taken))
+returns c = stands-early _ _ _ _ _ _ (c .if1 .taken)
 
 returns-2 : tie.Need-returns-2
-unfolding standsIn
-returns-2 c = and-yes _ _ _ (le-leb _ _ (c .before .before .if1 .left)) (and-no _ _ (le-ltb _ _ (c .if2 .taken)))
+returns-2 c = stands-past _ _ _ _ _ _ (c .before .before .before .if1 .left) (c .if2 .taken)
 
 returns-3 : tie.Need-returns-3
-unfolding standsIn
-returns-3 c = and-yes _ _ _ (le-leb _ _ (c .before .before .before .before .if1 .left)) (and-yes _ _ _ (lt-ltb _ _ (c .before .before .if2 .left)) (rw (← marks-words (c .before .marks-at .ensures)) (c .has .ensures)))
+returns-3 c =
+    let at-marks-at = c .before in
+    let at-if2 = at-marks-at .before in
+    let at-if1 = at-if2 .before .before .before in
+    let left = at-if1 .if1 .left in
+    stands-few _ _ _ _ _ _ left (at-if2 .if2 .left) _ (marks-words _ _ _ _ (at-marks-at .marks-at .ensures)) (c .if3 .taken)
+
+returns-4 : tie.Need-returns-4
+returns-4 c =
+    let at-marks = c .before .before .before in
+    stands-here _ _ _ _ _ _ (at-marks .before .before .before .before .if1 .left) (at-marks .before .if2 .left) _ (marks-words _ _ _ _ (at-marks .marks-at .ensures)) (c .before .before .if3 .left)
 
 pub stands-spec : {M : Type 1} → statement M
-stands-spec = tie.close (tie.spec returns returns-2 (λ c κs. search needs) (λ c κs. search needs) returns-3)
+stands-spec =
+    tie.close
+    (tie.spec
+    returns
+    returns-2
+    (λ c κs. search needs)
+    returns-3
+    (λ c. search needs)
+    (λ c. search needs)
+    returns-4)

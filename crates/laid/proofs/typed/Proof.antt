@@ -1,21 +1,21 @@
-use mathlib.Core.Path.{_≡_, refl, sym, ap, _∙_}
-use mathlib.Core.Bool.{Bool, true, false, not}
+-- `laid::typed` meets its contract.
+use mathlib.Core.Path.{sym, ap}
+use Prim.Native.Nat.{ℕ}
 use borrow.Author.Tests.{eq-eqb, ne-eqb}
-use Rattle.laid.specs.Laid.{typedIn}
+use lib.Dec.{ltb}
+use Rattle.lists.proofs.Bools.{or-left}
+use Rattle.laid.specs.Laid.{typed}
 use borrow.Author.Needs.{needs}
 use Rattle.laid.proofs.typed.Statement.{statement}
 use Rattle.laid.proofs.typed.Tie as tie
-use Rattle.laid.proofs.typed.Reads as reads
-use Rattle.laid.proofs.typed.Lts as lts
-use Rattle.shapes.proofs.dimension.Reads as dimension-reads
 
 returns : tie.Need-returns
-unfolding typedIn
-returns c = rw (eq-eqb _ _ (c .if1 .taken))
+unfolding typed
+returns c = sym (or-left _ _ (eq-eqb _ _ (c .if1 .taken)))
 
 returns-2 : tie.Need-returns-2
-unfolding typedIn
-returns-2 c = rw (ne-eqb _ _ (c .before .if1 .left), c .dimension .ensures)
+unfolding typed
+returns-2 c = rw (ne-eqb _ _ (c .before .if1 .left)) (ap (λ (d : ℕ). ltb 0 d) (c .dimension .ensures))
 
 pub typed-spec : {M : Type 1} → statement M
 typed-spec = tie.close (tie.spec returns (λ c κs. search needs) returns-2)

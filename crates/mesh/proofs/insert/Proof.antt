@@ -1,5 +1,5 @@
 -- `mesh::insert` meets its contract.
-use mathlib.Core.Path.{_≡_, refl, sym, ap, _∙_}
+use mathlib.Core.Path.{sym, _∙_}
 use Rattle.mesh.proofs.Answering.{edited-none, edited-refused, edited-made}
 use Rattle.mesh.proofs.Inserting.{insert-says}
 use borrow.Author.Needs.{needs}
@@ -10,10 +10,21 @@ returns : tie.Need-returns
 returns c = edited-none _ _ (sym (c .enum-told .given .1) ∙ c .before .before .«open» .ensures)
 
 returns-2 : tie.Need-returns-2
-returns-2 c = edited-refused _ _ _ (sym (c .before .before .before .before .before .before .caps .given .1) ∙ c .before .before .before .before .before .before .before .before .«open» .ensures) _ (λ m. insert-says m _ _ _) _ (c .before .before .before .check-insert .ensures) _ (c .before .why .given .1)
+returns-2 c =
+    let at-why = c .before in
+    let at-check-insert = at-why .before .before in
+    let at-caps = at-check-insert .before .before .before in
+    let at-start = at-caps .before .before in
+    edited-refused _ _ _ (sym (at-caps .caps .given .1) ∙ at-start .«open» .ensures) _ (λ m. insert-says m _ _) _ (at-check-insert .check-insert .ensures) _ (at-why .why .given .1)
 
 returns-3 : tie.Need-returns-3
-returns-3 c = edited-made _ _ _ (sym (c .before .before .before .before .before .before .before .before .before .caps .given .1) ∙ c .before .before .before .before .before .before .before .before .before .before .before .«open» .ensures) _ (λ m. insert-says m _ _ _) _ (c .before .before .before .before .before .before .check-insert .ensures) (c .before .before .before .before .enum-told2 .given .1) _ (c .before .before .make-insert .ensures)
+returns-3 c =
+    let at-make-insert = c .before .before in
+    let at-enum-told2 = at-make-insert .before .before in
+    let at-check-insert = at-enum-told2 .before .before in
+    let at-caps = at-check-insert .before .before .before in
+    let at-start = at-caps .before .before in
+    edited-made _ _ _ (sym (at-caps .caps .given .1) ∙ at-start .«open» .ensures) _ (λ m. insert-says m _ _) _ (at-check-insert .check-insert .ensures) (at-enum-told2 .enum-told2 .given .1) _ (at-make-insert .make-insert .ensures)
 
 pub insert-spec : {M : Type 1} → statement M
 insert-spec =

@@ -5,22 +5,28 @@ use Rattle.mesh.proofs.make_insert.Statement.{statement}
 use Rattle.mesh.proofs.make_insert.Tie as tie
 
 returns : tie.Need-returns
-returns c = insert-none _ _ _ _ _ (c .before .before .before .facet-table .ensures) _ _ (c .before .word .ensures) (c .if1 .taken)
+returns c = insert-none _ _ _ _ (c .before .before .before .facet-table .ensures) _ _ (c .before .count-of .ensures) (c .if1 .taken)
 
 returns-2 : tie.Need-returns-2
 returns-2 c =
-    insert-made _ _ _ _ _ (c .before .before .before .before .before .before .before .before .before .before .before .before .before .before .before .before .before .before .before .before .facet-table .ensures) _ _ (c .before .before .before .before .before .before .before .before .before .before .before .before .before .before .before .before .before .before .word .ensures) _ _ _ _ (c .before .before .before .before .before .before .before .before .before .before .before .before .before .before .before .put-body .ensures) (c .before .before .before .before .before .before .before .before .before .before .before .link-all .ensures) (c .before .before .before .before .before .before .settle .ensures)
-    (c .before .before .put-count .ensures)
+    let at-put-count = c .before .before in
+    let at-settle = at-put-count .before .before .before .before in
+    let at-link-all = at-settle .before .before .before .before .before in
+    let at-put-body = at-link-all .before .before .before .before in
+    let at-in-far = at-put-body .before in
+    let at-count-of = at-in-far .before .before .before in
+    let at-facet-table = at-count-of .before .before in
+    insert-made _ _ _ _ (at-facet-table .facet-table .ensures) _ _ (at-count-of .count-of .ensures) _ _ _ _ _ (at-in-far .in-far .ensures) (at-put-body .put-body .ensures) (at-link-all .link-all .ensures) (at-settle .settle .ensures) (at-put-count .put-count .ensures)
 
 pub make-insert-spec : {M : Type 1} → statement M
 make-insert-spec =
     tie.close
     (tie.spec
     (λ c κs. search needs)
-    (λ c. search needs)
     (λ c κs. search needs)
     (λ c. search needs)
     returns
+    (λ c κs. search needs)
     (λ c κs. search needs)
     (λ c κs. search needs)
     (λ c κs. search needs)

@@ -1,5 +1,5 @@
 -- `mesh::make_remove` meets its contract.
-use mathlib.Core.Path.{_≡_, refl, sym, ap, _∙_}
+use mathlib.Core.Path.{refl}
 use Rattle.mesh.proofs.Removing.{remove-by-record}
 use borrow.Author.Needs.{needs}
 use Rattle.mesh.proofs.make_remove.Statement.{statement}
@@ -7,8 +7,12 @@ use Rattle.mesh.proofs.make_remove.Tie as tie
 
 returns : tie.Need-returns
 returns c =
-    remove-by-record _ _ _ _ _ (c .before .before .before .before .before .before .before .before .copy-corners .ensures) refl _ _ _ _ (c .before .before .before .before .before .before .before .before .before .before .before .cell-word .ensures) (c .before .before .before .before .mark-count .ensures) (c .before .before .before .part .ensures .words)
-    (c .before .before .take-out .ensures)
+    let at-take-out = c .before .before in
+    let at-part = at-take-out .before in
+    let at-mark-count = at-part .before in
+    let at-copy-marks = at-mark-count .before .before .before .before in
+    let at-code-of = at-copy-marks .before .before .before in
+    remove-by-record _ _ _ _ _ (at-copy-marks .copy-marks .ensures) refl _ _ _ _ (at-code-of .code-of .ensures) (at-mark-count .mark-count .ensures) (at-part .part .ensures .words) (at-take-out .take-out .ensures)
 
 pub make-remove-spec : {M : Type 1} → statement M
 make-remove-spec =

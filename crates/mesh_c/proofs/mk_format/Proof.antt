@@ -5,7 +5,7 @@ use Rattle.mesh_c.proofs.mk_format.Statement.{statement}
 use Rattle.mesh_c.proofs.mk_format.Tie as tie
 
 returns : tie.Need-returns
-returns c = emptied _ _ (c .tell-verdict .ensures) _ _ _ _ (c .before .before .before .format .ensures)
+returns c = emptied _ _ (c .tell-verdict .ensures) _ _ _ (c .before .before .before .format .ensures)
 
 pub mk-format-spec : {M : Type 1} → statement M
 mk-format-spec = tie.close (tie.spec (λ c κs. search needs) (λ c κs. search needs) (λ c. search needs) returns)

@@ -4,9 +4,8 @@ use borrow.Author.Needs.{needs}
 use Rattle.picture.proofs.put_anchor.Statement.{statement}
 use Rattle.picture.proofs.put_anchor.Tie as tie
 
-returns-3 : tie.Need-returns-3
-returns-3 c = anchor-step _ _ _ _ _ _ (c .before .before .put-mark .ensures)
+returns : tie.Need-returns
+returns c = anchor-step _ _ _ _ _ _ (c .before .before .write-anchor .ensures)
 
 pub put-anchor-spec : {M : Type 1} → statement M
-put-anchor-spec =
-    tie.close (tie.spec (λ c. search needs) (λ c. search needs) (λ c. search needs) (λ c κs. search needs) (λ c. search needs) returns-3)
+put-anchor-spec = tie.close (tie.spec (λ c κs. search needs) (λ c. search needs) returns)

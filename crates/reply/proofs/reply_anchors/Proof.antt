@@ -6,10 +6,19 @@ use Rattle.reply.proofs.reply_anchors.Statement.{statement}
 use Rattle.reply.proofs.reply_anchors.Tie as tie
 
 returns : tie.Need-returns
-returns c = anchors-refused _ _ _ _ _ _ _ _ _ _ (search needs) (c .before .before .before .before .before .before .before .before .anchors .ensures) _ (c .before .before .before .before .before .why .given .1) (c .before .before .write-verdict .ensures)
+returns c =
+    let at-write-verdict = c .before .before in
+    let at-why = at-write-verdict .before .before .before in
+    let at-anchors = at-why .before .before .before in
+    anchors-refused _ _ _ _ _ _ _ _ _ _ (search needs) (at-anchors .anchors .ensures) _ (at-why .why .given .1) (at-write-verdict .write-verdict .ensures)
 
 returns-2 : tie.Need-returns-2
-returns-2 c = anchors-replied _ _ _ _ _ _ _ _ _ _ (search needs) _ (c .before .before .before .before .before .before .before .n .given .1) _ _ (omega arith) (c .before .before .before .part .ensures .words) (search needs) (c .before .before .before .before .before .before .before .before .before .before .anchors .ensures) (c .before .before .write-halves .ensures)
+returns-2 c =
+    let at-write-halves = c .before .before in
+    let at-part = at-write-halves .before in
+    let at-n = at-part .before .before .before .before in
+    let at-anchors = at-n .before .before .before in
+    anchors-replied _ _ _ _ _ _ _ _ _ _ (search needs) _ (at-n .n .given .1) _ _ (omega arith) (at-part .part .ensures .words) (search needs) (at-anchors .anchors .ensures) (at-write-halves .write-halves .ensures)
 
 pub reply-anchors-spec : {M : Type 1} → statement M
 reply-anchors-spec =

@@ -12,7 +12,10 @@ returns-2 : tie.Need-returns-2
 returns-2 c = cells-above _ _ _ _ _ _ _ (omega arith) (c .before .before .write-verdict2 .ensures)
 
 returns-3 : tie.Need-returns-3
-returns-3 c = format-replied _ _ _ _ _ _ _ _ _ (omega arith) (omega arith) (c .before .before .before .before .before .before .format .ensures) (c .before .before .write-verdict3 .ensures)
+returns-3 c =
+    let at-write-verdict3 = c .before .before in
+    let at-format = at-write-verdict3 .before .before .before .before in
+    format-replied _ _ _ _ _ _ _ _ _ (omega arith) (omega arith) (at-format .format .ensures) (at-write-verdict3 .write-verdict3 .ensures)
 
 pub reply-format-spec : {M : Type 1} → statement M
 reply-format-spec =

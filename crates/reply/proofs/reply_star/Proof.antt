@@ -6,10 +6,19 @@ use Rattle.reply.proofs.reply_star.Statement.{statement}
 use Rattle.reply.proofs.reply_star.Tie as tie
 
 returns : tie.Need-returns
-returns c = star-refused _ _ _ _ _ _ _ _ _ _ (search needs) (c .before .before .before .before .before .before .before .before .star .ensures) _ (c .before .before .before .before .before .why .given .1) (c .before .before .write-verdict .ensures)
+returns c =
+    let at-write-verdict = c .before .before in
+    let at-why = at-write-verdict .before .before .before in
+    let at-star = at-why .before .before .before in
+    star-refused _ _ _ _ _ _ _ _ _ _ (search needs) (at-star .star .ensures) _ (at-why .why .given .1) (at-write-verdict .write-verdict .ensures)
 
 returns-2 : tie.Need-returns-2
-returns-2 c = star-replied _ _ _ _ _ _ _ _ _ _ (search needs) _ (c .before .before .before .before .before .before .before .n .given .1) _ _ (omega arith) (c .before .before .before .part .ensures .words) (search needs) (c .before .before .before .before .before .before .before .before .before .before .star .ensures) (c .before .before .write-cells .ensures)
+returns-2 c =
+    let at-write-cells = c .before .before in
+    let at-part = at-write-cells .before in
+    let at-n = at-part .before .before .before .before in
+    let at-star = at-n .before .before .before in
+    star-replied _ _ _ _ _ _ _ _ _ _ (search needs) _ (at-n .n .given .1) _ _ (omega arith) (at-part .part .ensures .words) (search needs) (at-star .star .ensures) (at-write-cells .write-cells .ensures)
 
 pub reply-star-spec : {M : Type 1} → statement M
 reply-star-spec =

@@ -18,7 +18,11 @@ loop-holds : tie.Need-loop-holds Inv-loop μ-loop
 loop-holds c = (omega arith, anchors-start _ _ _ _)
 
 loop-again : tie.Need-loop-again Inv-loop μ-loop
-loop-again c = (omega arith, anchors-more _ _ _ _ _ _ (c .before .before .before .before .before .before .loop .i) _ (c .before .before .before .word .ensures) (c .before .before .before .before .before .before .loop .inv .1) (omega arith) (c .before .before .anchor-mark .ensures))
+loop-again c =
+    let at-anchor-mark = c .before .before in
+    let at-word = at-anchor-mark .before in
+    let at-loop = at-word .before .before .before in
+    (omega arith, anchors-more _ _ _ _ _ _ (at-loop .loop .i) _ (at-word .word .ensures) (at-loop .loop .inv .1) (omega arith) (at-anchor-mark .anchor-mark .ensures))
 
 returns : tie.Need-returns Inv-loop μ-loop
 returns c = anchors-done _ _ _ _ _ (c .before .loop .i) (c .before .loop .inv .1) (omega arith)

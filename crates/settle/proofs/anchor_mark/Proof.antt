@@ -6,8 +6,14 @@ use Rattle.settle.proofs.anchor_mark.Tie as tie
 
 returns : tie.Need-returns
 returns c =
-    three-step _ _ _ _ _ _ _ _ _ _ (c .before .before .before .before .before .before .before .before .before .before .before .before .before .before .before .before .first-anchor-of .ensures) (c .before .before .before .before .before .before .before .before .before .before .before .before .before .before .first-anchor-of2 .ensures) (c .before .before .before .before .before .before .before .before .before .before .before .before .first-anchor-of3 .ensures)
-    (c .before .before .before .before .before .before .before .before .before .before .put-anchor .ensures) (c .before .before .before .before .before .before .put-anchor2 .ensures) (c .before .before .put-anchor3 .ensures)
+    let at-put-anchor3 = c .before .before in
+    let at-put-anchor2 = at-put-anchor3 .before .before .before .before in
+    let at-put-anchor = at-put-anchor2 .before .before .before .before in
+    let at-first-anchor-of3 = at-put-anchor .before .before in
+    let at-first-anchor-of2 = at-first-anchor-of3 .before .before in
+    let at-first-anchor-of = at-first-anchor-of2 .before .before in
+    three-step _ _ _ _ _ _ _ _ _ _ (at-first-anchor-of .first-anchor-of .ensures) (at-first-anchor-of2 .first-anchor-of2 .ensures) (at-first-anchor-of3 .first-anchor-of3 .ensures)
+    (at-put-anchor .put-anchor .ensures) (at-put-anchor2 .put-anchor2 .ensures) (at-put-anchor3 .put-anchor3 .ensures)
 
 pub anchor-mark-spec : {M : Type 1} → statement M
 anchor-mark-spec =

@@ -2,7 +2,7 @@
 use Prim.Native.Nat.{_-_, _≤_}
 use native.Mathlib.Omega.{arith}
 use lib.ListN.{drop}
-use Rattle.settle.specs.Settle.{setsOf}
+use Rattle.map.specs.Cells.{setsOf}
 use Rattle.settle.specs.Mended.{Mends}
 use Rattle.settle.proofs.Mending.{mends-start, mends-more, mends-done}
 use borrow.Author.Needs.{needs}

@@ -5,7 +5,10 @@ use Rattle.settle.proofs.settle.Statement.{statement}
 use Rattle.settle.proofs.settle.Tie as tie
 
 returns : tie.Need-returns
-returns c = settle-step _ _ _ _ _ _ _ (c .before .before .before .before .before .before .mend-all .ensures) (c .before .before .anchor-all .ensures)
+returns c =
+    let at-anchor-all = c .before .before in
+    let at-mend-all = at-anchor-all .before .before .before .before in
+    settle-step _ _ _ _ _ _ _ (at-mend-all .mend-all .ensures) (at-anchor-all .anchor-all .ensures)
 
 pub settle-spec : {M : Type 1} → statement M
 settle-spec = tie.close (tie.spec (λ c κs. search needs) (λ c κs. search needs) (λ c. search needs) returns)

@@ -24,7 +24,10 @@ loop-holds c = (omega arith, omega arith, write-start _ (c .before .gather .last
 
 loop-again : tie.Need-loop-again Inv-loop μ-loop
 loop-again c =
-    let start = c .before .before .before .before .before in
+    let at-matching = c .before in
+    let at-word2 = at-matching .before in
+    let at-start = at-word2 .before .before .before in
+    let start = at-start in
     let gathered = start .before .before .gather in
     let less : start .loop .i < length (gathered .last .1 .1 .1 .0) = omega (arith, gathered .ensures .few, gathered .ensures .size) in
     ⊎-elim
@@ -32,28 +35,31 @@ loop-again c =
       omega arith,
       omega (arith, w .7),
       rw (w .6, w .7)
-          (write-more _ _ _ (start .loop .i) _ _ _ _ (start .loop .inv .2) less (c .before .before .word2 .ensures) (c .before .matching .ensures)
+          (write-more _ _ _ (start .loop .i) _ _ _ _ (start .loop .inv .2) less (at-word2 .word2 .ensures) (at-matching .matching .ensures)
           _ _ (w .0 .taken) (w .1 .ensures) (w .3 .ensures)),
     ))
     (λ w. (
       omega arith,
       omega (arith, w .2),
       rw (w .1, w .2)
-          (write-none _ _ _ (start .loop .i) _ _ _ _ (start .loop .inv .2) less (c .before .before .word2 .ensures) (c .before .matching .ensures)
+          (write-none _ _ _ (start .loop .i) _ _ _ _ (start .loop .inv .2) less (at-word2 .word2 .ensures) (at-matching .matching .ensures)
           (w .0 .left)),
     ))
     (c .if1 .came)
 
 returns : tie.Need-returns Inv-loop μ-loop
 returns c =
-    let loop = c .before .loop in
-    let gathered = c .before .before .before .gather in
+    let at-loop = c .before in
+    let at-gather = at-loop .before .before in
+    let at-word = at-gather .before .before in
+    let loop = at-loop .loop in
+    let gathered = at-gather .gather in
     let last : loop .i ≡ gathered .result = omega arith in
     record {
       few = omega (arith, gathered .ensures .few);
       size = loop .inv .2 .filled .size;
       list = λ s p r q.
-          shared-list _ _ _ _ _ _ _ _ (gathered .result) _ _ (c .before .before .before .before .before .word .ensures) (gathered .ensures) (gathered .ensures .few) (rw last at (loop .inv .2)) s p r q;
+          shared-list _ _ _ _ _ _ _ _ (gathered .result) _ _ (at-word .word .ensures) (gathered .ensures) (gathered .ensures .few) (rw last at (loop .inv .2)) s p r q;
     }
 
 pub sharers-spec : {M : Type 1} → statement M

@@ -21,16 +21,20 @@ loop-holds c = (omega arith, omega arith, kept-start _ _ _ _ _)
 
 loop-again : tie.Need-loop-again Inv-loop μ-loop
 loop-again c =
+    let at-dimension = c .before in
+    let at-code-of = at-dimension .before in
+    let at-word = at-code-of .before in
+    let at-loop = at-word .before .before in
     ⊎-elim
     (λ w. (
       omega arith,
-      omega (arith, w .6, c .before .before .before .before .before .loop .inv .1),
-      rw (w .6, w .5) (kept-yes _ _ _ _ _ (c .before .before .before .before .before .loop .i) _ _ _ _ _ _ (c .before .before .before .before .before .loop .inv .2) (c .before .before .before .word .ensures) (c .before .before .cell-word .ensures) (c .before .dimension .ensures) (w .0 .taken) (w .2 .ensures)),
+      omega (arith, w .6, at-loop .loop .inv .1),
+      rw (w .6, w .5) (kept-yes _ _ _ _ _ (at-loop .loop .i) _ _ _ _ _ _ (at-loop .loop .inv .2) (at-word .word .ensures) (at-code-of .code-of .ensures) (at-dimension .dimension .ensures) (w .0 .taken) (w .2 .ensures)),
     ))
     (λ w. (
       omega arith,
-      omega (arith, w .2, c .before .before .before .before .before .loop .inv .1),
-      rw (w .2, w .1) (kept-no _ _ _ _ _ (c .before .before .before .before .before .loop .i) _ _ _ _ _ (c .before .before .before .before .before .loop .inv .2) (c .before .before .before .word .ensures) (c .before .before .cell-word .ensures) (c .before .dimension .ensures) (w .0 .left)),
+      omega (arith, w .2, at-loop .loop .inv .1),
+      rw (w .2, w .1) (kept-no _ _ _ _ _ (at-loop .loop .i) _ _ _ _ _ (at-loop .loop .inv .2) (at-word .word .ensures) (at-code-of .code-of .ensures) (at-dimension .dimension .ensures) (w .0 .left)),
     ))
     (c .if1 .came)
 

@@ -6,7 +6,10 @@ use Rattle.star.proofs.star_of.Statement.{statement}
 use Rattle.star.proofs.star_of.Tie as tie
 
 returns : tie.Need-returns
-returns c = star-gives _ _ _ _ _ _ _ _ _ _ (c .before .before .before .before .before .before .gather .ensures) refl (c .before .before .keep-dimension .ensures)
+returns c =
+    let at-keep-dimension = c .before .before in
+    let at-gather = at-keep-dimension .before .before .before .before in
+    star-gives _ _ _ _ _ _ _ _ _ _ (at-gather .gather .ensures) refl (at-keep-dimension .keep-dimension .ensures)
 
 pub star-of-spec : {M : Type 1} → statement M
 star-of-spec =

@@ -1,8 +1,10 @@
 -- `store::open` meets its contract.
-use mathlib.Core.Path.{sym, ap, _∙_}
+use mathlib.Core.Path.{sym}
 use native.Mathlib.Omega.{arith}
 use Rattle.store.specs.Layout.{room, magic}
-use Rattle.store.proofs.Writes.{open-short, open-other, open-marks, open-cells, open-room, open-mesh}
+use Rattle.store.specs.Fields.{headPlace}
+use Rattle.store.specs.Open.{headIn, capsIn}
+use Rattle.store.proofs.Opens.{open-short, open-other, open-marks, open-cells, open-room, open-mesh}
 use borrow.Author.Needs.{needs}
 use Rattle.store.proofs.open.Statement.{statement}
 use Rattle.store.proofs.open.Tie as tie
@@ -11,25 +13,27 @@ returns : tie.Need-returns
 returns c = sym (open-short _ (omega arith))
 
 returns-2 : tie.Need-returns-2
-unfolding room magic
-returns-2 c = sym (open-other _ (omega arith) (λ e. omega arith))
+unfolding room magic headIn headPlace
+returns-2 c = sym (open-other _ (omega arith) (λ e. (omega arith)))
 
 returns-3 : tie.Need-returns-3
-unfolding room magic
+unfolding room magic headIn headPlace
 returns-3 c = sym (open-marks _ (omega arith) (omega arith) (omega arith))
 
 returns-4 : tie.Need-returns-4
-unfolding room magic
+unfolding room magic headIn headPlace
 returns-4 c = sym (open-cells _ (omega arith) (omega arith) (omega arith) (omega arith))
 
 returns-5 : tie.Need-returns-5
-unfolding room magic
+unfolding room magic headIn headPlace
 returns-5 c = sym (open-room _ (omega arith) (omega arith) (omega arith) (omega arith) (omega arith))
 
 returns-6 : tie.Need-returns-6
-unfolding room magic
-returns-6 c = rw (c .before .before .before .before .word2 .ensures, c .before .before .before .word3 .ensures)
-    (sym (open-mesh _ (omega arith) (omega arith) (omega arith) (omega arith) (omega arith)))
+unfolding room magic headIn headPlace capsIn
+returns-6 c =
+    let at-word3 = c .before .before .before .before .before .before in
+    let at-word2 = at-word3 .before in
+    rw (at-word2 .word2 .ensures, at-word3 .word3 .ensures) (sym (open-mesh _ (omega arith) (omega arith) (omega arith) (omega arith) (omega arith)))
 
 pub open-spec : {M : Type 1} → statement M
 open-spec =
@@ -42,11 +46,6 @@ open-spec =
     (λ c κs. search needs)
     returns-3
     returns-4
-    (λ c. search needs)
-    (λ c. search needs)
-    (λ c. search needs)
-    (λ c. search needs)
-    (λ c. search needs)
-    (λ c. search needs)
+    (λ c κs. search needs)
     returns-5
     returns-6)

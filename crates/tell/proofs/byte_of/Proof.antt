@@ -1,6 +1,6 @@
 -- `tell::byte_of` meets its contract.
 use Prim.Native.Nat.{ℕ, _%_}
-use Rattle.tell.proofs.Tells.{number-byte}
+use Rattle.map.proofs.Refusals.{number-byte}
 use mathlib.Core.Path.{ap, _∙_}
 use borrow.Author.Needs.{needs}
 use Rattle.tell.proofs.byte_of.Statement.{statement}

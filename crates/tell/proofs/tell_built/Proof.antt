@@ -1,6 +1,6 @@
 -- `tell::tell_built` meets its contract.
 use Rattle.tell.proofs.Tells.{told-none, built-refused}
-use Rattle.map.specs.Paper.{builtSays}
+use Rattle.map.specs.Says.{builtSays}
 use mathlib.Core.Path.{ap}
 use borrow.Author.Needs.{needs}
 use Rattle.tell.proofs.tell_built.Statement.{statement}

@@ -1,6 +1,6 @@
 -- `tell::tell_found` meets its contract.
 use Rattle.tell.proofs.Tells.{found-given, found-none, found-refused}
-use Rattle.map.specs.Paper.{foundSays}
+use Rattle.map.specs.Says.{foundSays}
 use mathlib.Core.Path.{ap}
 use borrow.Author.Needs.{needs}
 use Rattle.tell.proofs.tell_found.Statement.{statement}

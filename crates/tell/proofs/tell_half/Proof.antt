@@ -1,6 +1,6 @@
 -- `tell::tell_half` meets its contract.
 use Rattle.tell.proofs.Tells.{told-given, told-refused}
-use Rattle.map.specs.Paper.{halfSays}
+use Rattle.map.specs.Says.{halfSays}
 use mathlib.Core.Path.{ap}
 use borrow.Author.Needs.{needs}
 use Rattle.tell.proofs.tell_half.Statement.{statement}

@@ -1,6 +1,6 @@
 -- `tell::tell_truth` meets its contract.
 use Rattle.tell.proofs.Tells.{told-given, told-refused}
-use Rattle.map.specs.Paper.{truthSays}
+use Rattle.map.specs.Says.{truthSays}
 use mathlib.Core.Path.{ap}
 use borrow.Author.Needs.{needs}
 use Rattle.tell.proofs.tell_truth.Statement.{statement}

@@ -1,6 +1,6 @@
 -- `tell::tell_value` meets its contract.
 use Rattle.tell.proofs.Tells.{told-refused, told-given}
-use Rattle.map.specs.Paper.{valueSays}
+use Rattle.map.specs.Says.{valueSays}
 use mathlib.Core.Path.{ap}
 use borrow.Author.Needs.{needs}
 use Rattle.tell.proofs.tell_value.Statement.{statement}

@@ -1,6 +1,7 @@
+-- `whole::all_anchors` meets its contract.
 use borrow.Author.Needs.{needs}
 use Rattle.whole.proofs.Loops.{SeesTo, sees-start, sees-more, sees-stop, sees-end}
-use Rattle.whole.specs.Tests.{Sees, Readied, SettledBy, twinIn, loneOf, sibRight, sibsRight, ancRight, ancsRight, countIn, countRight}
+use Rattle.whole.specs.SecondHalf.{Sees, Readied, SettledBy, twinIn, loneOf, sibRight, sibsRight, ancRight, ancsRight, countIn, countRight}
 use borrow.Author.Tests.{not-true, not-false}
 use Prim.Native.Nat.{_<_, _-_, _≤_}
 use native.Mathlib.Omega.{arith}
@@ -8,9 +9,6 @@ use mathlib.Core.Bool.{Bool, true, false, not}
 use mathlib.Core.Path.{_≡_, refl, sym, ap, _∙_}
 use Rattle.whole.proofs.all_anchors.Statement.{statement}
 use Rattle.whole.proofs.all_anchors.Tie as tie
-use Rattle.whole.proofs.all_anchors.Reads as reads
-use Rattle.whole.proofs.all_anchors.Lts as lts
-use Rattle.whole.proofs.anchors_ok.Reads as anchors-ok-reads
 
 abbrev Inv-loop : tie.InvT-loop
 Inv-loop w caps rows v₀ v = (v ≤ caps .marks) × SeesTo w caps (SettledBy caps rows) (λ s. ancsRight caps s) v

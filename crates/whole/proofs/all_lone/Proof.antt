@@ -1,8 +1,9 @@
+-- `whole::all_lone` meets its contract.
 use borrow.Author.Needs.{needs}
 use Rattle.picture.specs.State.{mapWith}
 use Rattle.laid.specs.Upright.{Upright}
 use Rattle.whole.proofs.Loops.{SeesTo, sees-start, sees-more, sees-stop, sees-end}
-use Rattle.whole.specs.Tests.{Sees, Readied, SettledBy, twinIn, loneOf, sibRight, sibsRight, ancRight, ancsRight, countIn, countRight}
+use Rattle.whole.specs.SecondHalf.{Sees, Readied, SettledBy, twinIn, loneOf, sibRight, sibsRight, ancRight, ancsRight, countIn, countRight}
 use borrow.Author.Tests.{not-true, not-false}
 use Prim.Native.Nat.{_<_, _-_, _≤_}
 use native.Mathlib.Omega.{arith}
@@ -10,9 +11,6 @@ use mathlib.Core.Bool.{Bool, true, false, not}
 use mathlib.Core.Path.{_≡_, refl, sym, ap, _∙_}
 use Rattle.whole.proofs.all_lone.Statement.{statement}
 use Rattle.whole.proofs.all_lone.Tie as tie
-use Rattle.whole.proofs.all_lone.Reads as reads
-use Rattle.whole.proofs.all_lone.Lts as lts
-use Rattle.whole.proofs.lone.Reads as lone-reads
 
 abbrev Inv-loop : tie.InvT-loop
 Inv-loop w caps c₀ c = (c ≤ caps .cells) × SeesTo w caps (Upright caps) (λ s. loneOf (mapWith caps s)) c
@@ -35,13 +33,4 @@ returns-2 c = sees-end _ _ _ _ _ (c .before .before .loop .c) (c .before .before
 pub all-lone-spec : {M : Type 1} → statement M
 all-lone-spec =
     tie.close
-    (tie.spec
-    Inv-loop
-    μ-loop
-    loop-holds
-    (λ c κs. search needs)
-    returns
-    (λ c. search needs)
-    (λ c. search needs)
-    loop-again
-    returns-2)
+    (tie.spec Inv-loop μ-loop loop-holds (λ c κs. search needs) returns (λ c. search needs) (λ c. search needs) loop-again returns-2)

@@ -1,6 +1,7 @@
+-- `whole::all_siblings` meets its contract.
 use borrow.Author.Needs.{needs}
 use Rattle.whole.proofs.Loops.{SeesTo, sees-start, sees-more, sees-stop, sees-end}
-use Rattle.whole.specs.Tests.{Sees, Readied, SettledBy, twinIn, loneOf, sibRight, sibsRight, ancRight, ancsRight, countIn, countRight}
+use Rattle.whole.specs.SecondHalf.{Sees, Readied, SettledBy, twinIn, loneOf, sibRight, sibsRight, ancRight, ancsRight, countIn, countRight}
 use borrow.Author.Tests.{not-true, not-false}
 use Prim.Native.Nat.{_<_, _-_, _≤_}
 use native.Mathlib.Omega.{arith}
@@ -8,9 +9,6 @@ use mathlib.Core.Bool.{Bool, true, false, not}
 use mathlib.Core.Path.{_≡_, refl, sym, ap, _∙_}
 use Rattle.whole.proofs.all_siblings.Statement.{statement}
 use Rattle.whole.proofs.all_siblings.Tie as tie
-use Rattle.whole.proofs.all_siblings.Reads as reads
-use Rattle.whole.proofs.all_siblings.Lts as lts
-use Rattle.whole.proofs.siblings_ok.Reads as siblings-ok-reads
 
 abbrev Inv-loop : tie.InvT-loop
 Inv-loop w caps rows c₀ c = (c ≤ caps .cells) × SeesTo w caps (Readied caps rows) (λ s. sibsRight w caps s) c

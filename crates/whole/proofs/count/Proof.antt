@@ -1,3 +1,4 @@
+-- `whole::count` meets its contract.
 use borrow.Author.Needs.{needs}
 use mathlib.Core.Logic.{⊎-elim}
 use Rattle.whole.proofs.Readings.{Counted, counted-start, counted-few, counted-more, counted-same, counted-end}
@@ -7,9 +8,6 @@ use mathlib.Core.Bool.{Bool, true, false, not}
 use mathlib.Core.Path.{_≡_, refl, sym, ap, _∙_}
 use Rattle.whole.proofs.count.Statement.{statement}
 use Rattle.whole.proofs.count.Tie as tie
-use Rattle.whole.proofs.count.Reads as reads
-use Rattle.whole.proofs.count.Lts as lts
-use Rattle.store.proofs.cell_word.Reads as cell-word-reads
 
 abbrev Inv-loop : tie.InvT-loop
 Inv-loop w caps t n₀ c₀ n c = (c ≤ caps .cells) × Counted w caps t c n
@@ -24,7 +22,7 @@ add-n : tie.Need-add-n Inv-loop μ-loop
 add-n c = omega (arith, counted-few _ _ _ (c .before .before .before .before .loop .c) (c .before .before .before .before .loop .n) (c .before .before .before .before .loop .inv .1))
 
 loop-again : tie.Need-loop-again Inv-loop μ-loop
-loop-again c = (omega arith, ⊎-elim (λ b. counted-more _ _ _ (c .before .before .before .before .loop .c) (c .before .before .before .before .loop .n) _ _ (c .before .before .before .before .loop .inv .1) (c .before .cell-word .ensures) (b .0 .taken) (b .1)) (λ b. counted-same _ _ _ (c .before .before .before .before .loop .c) (c .before .before .before .before .loop .n) _ _ (c .before .before .before .before .loop .inv .1) (c .before .cell-word .ensures) (b .0 .left) (b .1)) (c .if2 .came))
+loop-again c = (omega arith, ⊎-elim (λ b. counted-more _ _ _ (c .before .before .before .before .loop .c) (c .before .before .before .before .loop .n) _ _ (c .before .before .before .before .loop .inv .1) (c .before .code-of .ensures) (b .0 .taken) (b .1)) (λ b. counted-same _ _ _ (c .before .before .before .before .loop .c) (c .before .before .before .before .loop .n) _ _ (c .before .before .before .before .loop .inv .1) (c .before .code-of .ensures) (b .0 .left) (b .1)) (c .if2 .came))
 
 returns : tie.Need-returns Inv-loop μ-loop
 returns c = counted-end _ _ _ (c .before .before .loop .c) _ (c .before .before .loop .inv .1) (omega arith) (omega arith)
@@ -32,13 +30,4 @@ returns c = counted-end _ _ _ (c .before .before .loop .c) _ (c .before .before 
 pub count-spec : {M : Type 1} → statement M
 count-spec =
     tie.close
-    (tie.spec
-    Inv-loop
-    μ-loop
-    loop-holds
-    (λ c κs. search needs)
-    add-n
-    (λ c. search needs)
-    (λ c. search needs)
-    loop-again
-    returns)
+    (tie.spec Inv-loop μ-loop loop-holds (λ c κs. search needs) add-n (λ c. search needs) (λ c. search needs) loop-again returns)

@@ -1,8 +1,9 @@
-use Rattle.facet.specs.Facet.{codeIn}
+-- `whole::siblings_ok` meets its contract.
+use Rattle.store.specs.Slots.{codeIn}
 use Rattle.shapes.specs.Shapes.{facetCount}
 use borrow.Author.Needs.{needs}
 use Rattle.whole.proofs.Loops.{SeesTo, sees-start, sees-more, sees-stop, sees-end}
-use Rattle.whole.specs.Tests.{Sees, Readied, SettledBy, twinIn, loneOf, sibRight, sibsRight, ancRight, ancsRight, countIn, countRight}
+use Rattle.whole.specs.SecondHalf.{Sees, Readied, SettledBy, twinIn, loneOf, sibRight, sibsRight, ancRight, ancsRight, countIn, countRight}
 use borrow.Author.Tests.{not-true, not-false}
 use Prim.Native.Nat.{_<_, _-_, _≤_}
 use native.Mathlib.Omega.{arith}
@@ -10,21 +11,15 @@ use mathlib.Core.Bool.{Bool, true, false, not}
 use mathlib.Core.Path.{_≡_, refl, sym, ap, _∙_}
 use Rattle.whole.proofs.siblings_ok.Statement.{statement}
 use Rattle.whole.proofs.siblings_ok.Tie as tie
-use Rattle.whole.proofs.siblings_ok.Reads as reads
-use Rattle.whole.proofs.siblings_ok.Lts as lts
-use Rattle.shapes.proofs.facet_count.Reads as facet-count-reads
-use Rattle.store.proofs.cell_word.Reads as cell-word-reads
-use Rattle.whole.proofs.sibling_ok.Reads as sibling-ok-reads
 
 abbrev Inv-loop : tie.InvT-loop
-Inv-loop w caps rows c n f₀ f = ((f ≤ n) × (n ≡ facetCount (codeIn w caps c))) × SeesTo w caps (λ s. Readied caps rows s × (c < caps .cells)) (λ s. sibRight caps s c) f
+Inv-loop w caps rows c n f₀ f = ((f ≤ n) × (n ≡ facetCount (codeIn w caps (c .0)))) × SeesTo w caps (λ s. Readied caps rows s × (c .0 < caps .cells)) (λ s. sibRight caps s (c .0)) f
 
 abbrev μ-loop : tie.MeasureT-loop
 μ-loop w caps rows c n f₀ f = n - f
 
 loop-holds : tie.Need-loop-holds Inv-loop μ-loop
-unfolding codeIn
-loop-holds c = ((omega arith, c .facet-count .ensures ∙ ap facetCount (c .before .cell-word .ensures)), sees-start _ _ _ _)
+loop-holds c = ((omega arith, c .facet-count .ensures ∙ ap facetCount (c .before .code-of .ensures)), sees-start _ _ _ _)
 
 returns : tie.Need-returns Inv-loop μ-loop
 unfolding sibsRight
@@ -40,15 +35,4 @@ returns-2 c = sees-end _ _ _ _ _ (c .before .loop .f) (c .before .loop .inv .1) 
 pub siblings-ok-spec : {M : Type 1} → statement M
 siblings-ok-spec =
     tie.close
-    (tie.spec
-    Inv-loop
-    μ-loop
-    (λ c κs. search needs)
-    (λ c κs. search needs)
-    loop-holds
-    (λ c κs. search needs)
-    returns
-    (λ c. search needs)
-    (λ c. search needs)
-    loop-again
-    returns-2)
+    (tie.spec Inv-loop μ-loop (λ c κs. search needs) (λ c κs. search needs) loop-holds (λ c κs. search needs) returns (λ c. search needs) (λ c. search needs) loop-again returns-2)

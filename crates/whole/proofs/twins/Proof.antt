@@ -1,21 +1,18 @@
+-- `whole::twins` meets its contract.
 use borrow.Author.Needs.{needs}
 use Rattle.lists.proofs.Through.{none-start, none-more, one-there, none-all}
 use Rattle.lists.specs.Lists.{any, listOf}
 use lib.ListN.{getD}
-use Rattle.whole.specs.Tests.{twinIn}
+use Rattle.whole.specs.SecondHalf.{twinIn}
 use Prim.Native.Nat.{_-_, _≤_}
 use native.Mathlib.Omega.{arith}
 use mathlib.Core.Bool.{Bool, true, false, not}
 use mathlib.Core.Path.{_≡_, refl, sym, ap, _∙_}
 use Rattle.whole.proofs.twins.Statement.{statement}
 use Rattle.whole.proofs.twins.Tie as tie
-use Rattle.whole.proofs.twins.Reads as reads
-use Rattle.whole.proofs.twins.Lts as lts
-use Rattle.whole.proofs.twin.Reads as twin-reads
-use Rattle.words.proofs.word.Reads as word-reads
 
 abbrev Inv-loop : tie.InvT-loop
-Inv-loop w caps c cells n i₀ i = (i ≤ n) × (any (twinIn w caps c) (listOf i (λ j. getD cells j 0)) ≡ false)
+Inv-loop w caps c cells n i₀ i = (i ≤ n) × (any (twinIn w caps (c .0)) (listOf i (λ j. getD cells j 0)) ≡ false)
 
 abbrev μ-loop : tie.MeasureT-loop
 μ-loop w caps c cells n i₀ i = n - i
@@ -35,15 +32,4 @@ returns-2 c = none-all _ _ (c .before .loop .i) _ (c .before .loop .inv .1) (c .
 pub twins-spec : {M : Type 1} → statement M
 twins-spec =
     tie.close
-    (tie.spec
-    Inv-loop
-    μ-loop
-    loop-holds
-    (λ c. search needs)
-    (λ c κs. search needs)
-    (λ c κs. search needs)
-    returns
-    (λ c. search needs)
-    (λ c. search needs)
-    loop-again
-    returns-2)
+    (tie.spec Inv-loop μ-loop loop-holds (λ c. search needs) (λ c κs. search needs) (λ c κs. search needs) returns (λ c. search needs) (λ c. search needs) loop-again returns-2)

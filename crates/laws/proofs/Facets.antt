@@ -1,0 +1,82 @@
+-- The facets of a cell of a sound map.
+use mathlib.Core.Path.{_≡_, refl, sym, ap, _∙_}
+use mathlib.Core.Bool.{true}
+use mathlib.Core.List.{List, [], map}
+use Prim.Native.Nat.{ℕ, _<_, _≤_}
+use native.Mathlib.Omega.{arith}
+use lib.ListN.{length, getD, length-map, List·getD-map}
+use Rattle.lists.specs.Lists.{has, sameSet}
+use Rattle.lists.proofs.Bools.{same-test}
+use Rattle.lists.proofs.Members.{at-has, has-at, once}
+use Rattle.lists.proofs.Sets.{same-has, has-same}
+use Rattle.lists.proofs.Alike.{map-at}
+use Rattle.shapes.specs.Shapes.{shape}
+use Rattle.shapes.specs.Facts.{facetAt}
+use Rattle.shapes.proofs.Facts.{facts}
+use Rattle.map.specs.Cells.{Map, holds, facetsAt}
+use Rattle.map.specs.Sound.{Sound}
+use Rattle.laws.proofs.Anchors.{facet-mark}
+
+-- a cell has as many facets as its type
+pub facets-count : (m : Map) (c : ℕ) → length (facetsAt m c) ≡ length (shape (m .at c .code) .facets)
+unfolding facetsAt
+facets-count m c = length-map (shape (m .at c .code) .facets) (map (λ place. getD (m .at c .marks) place 0))
+
+-- a cell of a sound map has at most one facet with a given set
+module _ (m : Map) (o : Sound m) (c : ℕ) where
+  facet-place : (f place : ℕ) → place < shape (m .at c .code) .marks → has (getD (m .at c .marks) place 0) (getD (facetsAt m c) f []) ≡ true
+      → has place (facetAt (shape (m .at c .code)) f) ≡ true
+  unfolding facetsAt
+  facet-place f place l e =
+      let mark : ℕ → ℕ = λ p. getD (m .at c .marks) p 0 in
+      let ps : List ℕ = facetAt (shape (m .at c .code)) f in
+      let r = map-at mark ps (mark place) (sym (ap (has (mark place)) (List·getD-map (map mark) (shape (m .at c .code) .facets) f [])) ∙ e) in
+      let same : getD ps (r .0) 0 ≡ place =
+      once (m .at c .marks) (o .distinct c) (getD ps (r .0) 0) place
+      (rw (o .fitting c) (facts (m .at c .code) .inside f (r .0) (r .1))) (rw (o .fitting c) l) (r .2) in
+      rw same at (at-has ps (r .0) (r .1))
+
+  pub one-match : (f g : ℕ) → f < length (facetsAt m c) → g < length (facetsAt m c)
+      → sameSet (getD (facetsAt m c) f []) (getD (facetsAt m c) g []) ≡ true → f ≡ g
+  one-match f g hf hg e =
+      facts t .differ f g (count f hf) (count g hg)
+      (has-same (facetAt (shape t) f) (facetAt (shape t) g)
+      (λ v. same-test _ _ (λ q. there f g (same-has _ _ e) v q) (λ q. there g f (λ u. sym (same-has _ _ e u)) v q)))
+    where
+      t : ℕ
+      t = m .at c .code
+
+      count : (k : ℕ) → k < length (facetsAt m c) → k < length (shape t .facets)
+      count k h = omega (arith, facets-count m c)
+
+      below : (k v : ℕ) → has v (facetAt (shape t) k) ≡ true → v < shape t .marks
+      below k v q = let r = has-at v (facetAt (shape t) k) q in rw (r .2) at (facts t .inside k (r .0) (r .1))
+
+      there : (j k : ℕ) → ((v : ℕ) → has v (getD (facetsAt m c) j []) ≡ has v (getD (facetsAt m c) k [])) → (v : ℕ)
+          → has v (facetAt (shape t) j) ≡ true → has v (facetAt (shape t) k) ≡ true
+      there j k same v q = facet-place k v (below j v q) (sym (same (getD (m .at c .marks) v 0)) ∙ facet-mark m c j v q)
+
+-- a facet has a first mark
+module _ (m : Map) (c f : ℕ) (hf : f < length (facetsAt m c)) where
+  abbrev mark : ℕ → ℕ
+  mark place = getD (m .at c .marks) place 0
+
+  abbrev ps : List ℕ
+  ps = facetAt (shape (m .at c .code)) f
+
+  mapped : getD (facetsAt m c) f [] ≡ map mark ps
+  unfolding facetsAt
+  mapped = List·getD-map (map (λ place. getD (m .at c .marks) place 0)) (shape (m .at c .code) .facets) f []
+
+  pub facet-some : 0 < length (getD (facetsAt m c) f [])
+  facet-some = rw (mapped, length-map) (facts (m .at c .code) .some f (omega (arith, facets-count m c)))
+
+  -- and it is one of the mesh
+  pub facet-inside : Sound m → getD (getD (facetsAt m c) f []) 0 0 < m .caps .marks
+  unfolding holds
+  facet-inside o =
+      let v = getD (getD (facetsAt m c) f []) 0 0 in
+      let r = map-at mark ps v (ap (has v) (sym mapped) ∙ at-has (getD (facetsAt m c) f []) 0 facet-some) in
+      let place = getD ps (r .0) 0 in
+      let less : place < length (m .at c .marks) = omega (arith, o .fitting c, facts (m .at c .code) .inside f (r .0) (r .1)) in
+      o .inside v c (ap (λ (u : ℕ). has u (m .at c .marks)) (sym (r .2)) ∙ at-has (m .at c .marks) place less)

@@ -1,0 +1,68 @@
+-- The outline's number and values of each case of the enums.
+use mathlib.Core.List.{List, [], _∷_}
+use Prim.Native.Nat.{ℕ}
+use Rattle.map.specs.declared.Refusal.{Refusal}
+use Rattle.map.specs.declared.Refusal.the-variants.{CapacityAbove, MemoryShort, CellOutside, CellLive, CellNotLive, TypeUnknown, CountWrong, MarkOutside, MarkTwice, CellSame, MarkFull, OutputShort, FacetOutside, NotMesh, BadFrame}
+use Rattle.map.specs.declared.Verdict.{Verdict}
+use Rattle.map.specs.declared.Verdict.the-variants as Verdict′
+use Rattle.map.specs.declared.Value.{Value}
+use Rattle.map.specs.declared.Value.the-variants as Value′
+use Rattle.map.specs.declared.HalfAt.{HalfAt}
+use Rattle.map.specs.declared.HalfAt.the-variants as HalfAt′
+use Rattle.map.specs.declared.Found.{Found}
+use Rattle.map.specs.declared.Found.the-variants as Found′
+use Rattle.map.specs.declared.Truth.{Truth}
+use Rattle.map.specs.declared.Truth.the-variants as Truth′
+use Rattle.map.specs.declared.Built.{Built}
+use Rattle.map.specs.declared.Built.the-variants as Built′
+use Rattle.map.specs.Answers.{Answer}
+
+abbrev pub numberOf : Refusal → ℕ
+numberOf CapacityAbove = 1
+numberOf MemoryShort = 2
+numberOf CellOutside = 3
+numberOf CellLive = 4
+numberOf CellNotLive = 5
+numberOf TypeUnknown = 6
+numberOf CountWrong = 7
+numberOf MarkOutside = 8
+numberOf MarkTwice = 9
+numberOf CellSame = 10
+numberOf MarkFull = 11
+numberOf OutputShort = 12
+numberOf FacetOutside = 13
+numberOf NotMesh = 14
+numberOf BadFrame = 15
+
+unfoldable pub given : List ℕ → Answer
+given values = record { refusal = 0; values = values }
+
+unfoldable pub refused : Refusal → Answer
+refused r = record { refusal = numberOf r; values = [] }
+
+unfoldable pub verdictSays : Verdict → Answer
+verdictSays Verdict′.Accepted = given []
+verdictSays (Verdict′.Refused r) = refused r
+
+unfoldable pub valueSays : Value → Answer
+valueSays (Value′.Is n) = given (n ∷ [])
+valueSays (Value′.Refused r) = refused r
+
+unfoldable pub halfSays : HalfAt → Answer
+halfSays (HalfAt′.At h) = given (h .0 ∷ [])
+halfSays (HalfAt′.Refused r) = refused r
+
+unfoldable pub foundSays : Found → Answer
+foundSays (Found′.At h) = given (h .0 ∷ [])
+foundSays Found′.Nothing = given []
+foundSays (Found′.Refused r) = refused r
+
+unfoldable pub truthSays : Truth → Answer
+truthSays Truth′.Yes = given (1 ∷ [])
+truthSays Truth′.No = given (0 ∷ [])
+truthSays (Truth′.Refused r) = refused r
+
+-- a refused build gives the record's place too
+unfoldable pub builtSays : Built → Answer
+builtSays Built′.Accepted = given []
+builtSays (Built′.Refused r place) = record { refusal = numberOf r; values = place ∷ [] }

@@ -1,0 +1,34 @@
+-- `store::write_sibling` meets its contract.
+use mathlib.Core.Path.{sym}
+use native.Mathlib.Omega.{arith}
+use Rattle.store.proofs.Writes.{cell-outside, sib-out, sib-in}
+use Rattle.store.specs.Layout.{nearAt}
+use borrow.Author.Needs.{needs}
+use Rattle.store.proofs.write_sibling.Statement.{statement}
+use Rattle.store.proofs.write_sibling.Tie as tie
+
+returns : tie.Need-returns
+returns c = sym (cell-outside _ _ _ _ _ (omega arith))
+
+returns-2 : tie.Need-returns-2
+returns-2 c = sym (sib-out _ _ _ _ _ (omega arith))
+
+returns-3 : tie.Need-returns-3
+unfolding nearAt
+returns-3 c = sib-in _ _ _ _ _ _ _ (c .before .before .put .ensures) (omega arith) (omega arith) (omega arith)
+
+pub write-sibling-spec : {M : Type 1} → statement M
+write-sibling-spec =
+    tie.close
+    (tie.spec
+    (λ c κs. search needs)
+    (λ c κs. search needs)
+    returns
+    returns-2
+    (λ c κs. search needs)
+    (λ c. search needs)
+    (λ c. search needs)
+    (λ c. search needs)
+    (λ c κs. search needs)
+    (λ c. search needs)
+    returns-3)
