@@ -93,7 +93,9 @@ uint8_t mk_insert(uint32_t *mesh, size_t words, uint32_t cell, uint32_t type, co
 /* Remove: the cell of that number taken out. Refused with 14, 3, 5. */
 uint8_t mk_remove(uint32_t *mesh, size_t words, uint32_t cell);
 
-/* Type: the type code of a cell. Refused with 14, 3, 5. * The places lent must not overlap.
+/*
+ * Type: the type code of a cell. Refused with 14, 3, 5.
+ * The places lent must not overlap.
  */
 uint8_t mk_type(const uint32_t *mesh, size_t words, uint32_t cell, uint32_t *type);
 
@@ -118,12 +120,16 @@ uint8_t mk_sibling(const uint32_t *mesh, size_t words, uint32_t cell, uint32_t f
  * neighbours, and as many as there are cells any list of mk_cells.
  */
 
-/* Cycle: all half-facets with this one's set of marks, this one first. Refused with 14, 3, 5, 13, 12. * The places lent must not overlap.
+/*
+ * Cycle: all half-facets with this one's set of marks, this one first. Refused with 14, 3, 5, 13, 12.
+ * The places lent must not overlap.
  */
 uint8_t mk_cycle(const uint32_t *mesh, size_t words, uint32_t cell, uint32_t facet, uint32_t *out, size_t room,
                  uint32_t *count);
 
-/* Border: 1 if the half-facet is alone in its set, else 0. Refused with 14, 3, 5, 13. * The places lent must not overlap.
+/*
+ * Border: 1 if the half-facet is alone in its set, else 0. Refused with 14, 3, 5, 13.
+ * The places lent must not overlap.
  */
 uint8_t mk_border(const uint32_t *mesh, size_t words, uint32_t cell, uint32_t facet, uint32_t *yes);
 
@@ -167,12 +173,17 @@ uint8_t mk_neighbours(const uint32_t *mesh, size_t words, uint32_t cell, uint32_
 uint8_t mk_lookup(const uint32_t *mesh, size_t words, const uint32_t *set, size_t n, uint32_t *found,
                   uint32_t *half);
 
-/* Cells: the live cells of a type code, ascending. Refused with 14, 6, 12. * The places lent must not overlap.
+/*
+ * Cells: the live cells of a type code, ascending. Refused with 14, 6, 12.
+ * The places lent must not overlap.
  */
 uint8_t mk_cells(const uint32_t *mesh, size_t words, uint32_t type, uint32_t *out, size_t room,
                  uint32_t *count);
 
-/* Count: how many live cells of a type code there are. Refused with 14, 6. * The places lent must not overlap.
+/*
+ * Count: how many live cells of a type code there are. Refused with 14, 6. It is read from memory, and on
+ * words that are no well-formed mesh may be any number: room for mk_cells is sized by the capacity.
+ * The places lent must not overlap.
  */
 uint8_t mk_count(const uint32_t *mesh, size_t words, uint32_t type, uint32_t *count);
 

@@ -5,8 +5,8 @@ mod facet_map;
 mod maps;
 
 use facet_map::FacetMap;
-use maps::{mixed, triangles, Cell, Map};
-use mengkiloh::{room, Mesh};
+use maps::{mixed, triangles, Body, Map};
+use mengkiloh::{room, Cell, Half, Mesh};
 use std::hint::black_box;
 use std::time::Instant;
 
@@ -93,22 +93,23 @@ fn library(map: &Map) -> [f64; 8] {
         remove = remove.min(begin.elapsed().as_nanos() as f64 / order.len() as f64);
         let begin = Instant::now();
         for &cell in &order {
-            let Cell { code, marks } = &map.cells[cell as usize];
+            let Body { code, marks } = map.body(cell);
             mesh.insert(cell, *code, marks).expect("the cell is free");
         }
         insert = insert.min(begin.elapsed().as_nanos() as f64 / order.len() as f64);
     }
     let asked = map.some_cells(CALLS);
-    let mut out = [0; 128];
+    let mut out = [Cell(0); 128];
     let star = each(asked.len(), || {
         for &cell in &asked {
-            let mark = map.cells[cell as usize].marks[0];
+            let mark = map.body(cell).marks[0];
             black_box(mesh.star_into(2, mark, &mut out)).expect("the mark is there");
         }
     });
+    let mut out = [Half(0); 128];
     let anchors = each(asked.len(), || {
         for &cell in &asked {
-            let mark = map.cells[cell as usize].marks[0];
+            let mark = map.body(cell).marks[0];
             black_box(mesh.anchors_into(2, mark, &mut out)).expect("the mark is there");
         }
     });
@@ -130,8 +131,8 @@ fn hash_map(map: &Map) -> [f64; 8] {
     let mut facets = FacetMap::new(map.marks, map.cells.len());
     let build = each(map.cells.len(), || {
         facets = FacetMap::new(map.marks, map.cells.len());
-        for (number, cell) in (0..).zip(&map.cells) {
-            facets.insert(number, cell.code, &cell.marks);
+        for (cell, Body { code, marks }) in map.numbered() {
+            facets.insert(cell, *code, marks);
         }
     });
     let order = map.some_cells(CALLS.min(map.cells.len() / 2));
@@ -144,7 +145,7 @@ fn hash_map(map: &Map) -> [f64; 8] {
         remove = remove.min(begin.elapsed().as_nanos() as f64 / order.len() as f64);
         let begin = Instant::now();
         for &cell in &order {
-            let Cell { code, marks } = &map.cells[cell as usize];
+            let Body { code, marks } = map.body(cell);
             facets.insert(cell, *code, marks);
         }
         insert = insert.min(begin.elapsed().as_nanos() as f64 / order.len() as f64);
@@ -153,7 +154,7 @@ fn hash_map(map: &Map) -> [f64; 8] {
     let mut out = Vec::new();
     let star = each(asked.len(), || {
         for &cell in &asked {
-            facets.star(2, map.cells[cell as usize].marks[0], &mut out);
+            facets.star(2, map.body(cell).marks[0], &mut out);
             black_box(&out);
         }
     });

@@ -1,42 +1,53 @@
 //! The maps that are measured.
 
-pub struct Cell {
+use mengkiloh::{Cell, Mark, Records};
+
+/// What a cell is: its type's code and its marks.
+pub struct Body {
     pub code: u32,
-    pub marks: Vec<u32>,
+    pub marks: Vec<Mark>,
 }
 
 pub struct Map {
     pub name: String,
     pub marks: u32,
-    pub cells: Vec<Cell>,
+    /// By cell number.
+    pub cells: Vec<Body>,
 }
 
 impl Map {
+    pub fn numbered(&self) -> impl Iterator<Item = (Cell, &Body)> {
+        (0..).map(Cell).zip(&self.cells)
+    }
+
+    pub fn body(&self, cell: Cell) -> &Body {
+        &self.cells[cell.0 as usize]
+    }
+
     /// The cells as build records.
-    pub fn records(&self) -> Vec<u32> {
-        let mut words = Vec::new();
-        for (number, cell) in (0..).zip(&self.cells) {
-            words.extend([number, cell.code]);
-            words.extend(&cell.marks);
+    pub fn records(&self) -> Records {
+        let mut records = Records::new();
+        for (cell, Body { code, marks }) in self.numbered() {
+            records.add(cell, *code, marks);
         }
-        words
+        records
     }
 
     /// So many cell numbers from all over the map, each once as long as they
     /// last.
-    pub fn some_cells(&self, count: usize) -> Vec<u32> {
+    pub fn some_cells(&self, count: usize) -> Vec<Cell> {
         let cells = self.cells.len();
         let step = (cells * 61 / 100..)
             .find(|&step| coprime(step, cells))
             .unwrap_or(1);
         (0..count)
-            .map(|turn| (turn * step % cells) as u32)
+            .map(|turn| Cell((turn * step % cells) as u32))
             .collect()
     }
 
     /// The marks of the first facet of a cell.
-    pub fn facet(&self, cell: u32) -> &[u32] {
-        let Cell { code, marks } = &self.cells[cell as usize];
+    pub fn facet(&self, cell: Cell) -> &[Mark] {
+        let Body { code, marks } = self.body(cell);
         &marks[..[0, 1, 2, 2, 3][*code as usize]]
     }
 }
@@ -51,7 +62,7 @@ fn coprime(a: usize, b: usize) -> bool {
 /// The first triangles of a grid of squares, each cut in two.
 pub fn triangles(count: usize) -> Map {
     let side = (1..).find(|side| 2 * side * side >= count).unwrap_or(1) as u32;
-    let mark = |x: u32, y: u32| y * (side + 1) + x;
+    let mark = |x: u32, y: u32| Mark(y * (side + 1) + x);
     let squares = (0..side).flat_map(|y| (0..side).map(move |x| (x, y)));
     let cells = squares
         .flat_map(|(x, y)| {
@@ -61,7 +72,7 @@ pub fn triangles(count: usize) -> Map {
             ]
         })
         .take(count)
-        .map(|marks| Cell { code: 2, marks })
+        .map(|marks| Body { code: 2, marks })
         .collect();
     Map {
         name: format!("{count} triangles"),
@@ -76,9 +87,9 @@ pub fn mixed(count: usize) -> Map {
     let row = blocks + 1;
     let cells = (0..blocks)
         .flat_map(|block| {
-            let [a, b] = [block, block + 1];
-            let [c, d] = [row + block, row + block + 1];
-            let top = 2 * row + block;
+            let [a, b] = [block, block + 1].map(Mark);
+            let [c, d] = [row + block, row + block + 1].map(Mark);
+            let top = Mark(2 * row + block);
             [
                 (3, vec![a, b, d, c]),
                 (2, vec![a, b, top]),
@@ -88,7 +99,7 @@ pub fn mixed(count: usize) -> Map {
             ]
         })
         .take(count)
-        .map(|(code, marks)| Cell { code, marks })
+        .map(|(code, marks)| Body { code, marks })
         .collect();
     Map {
         name: format!("{count} mixed"),

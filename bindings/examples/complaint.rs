@@ -3,35 +3,37 @@
 //!
 //! `cargo run --example complaint`
 
-use mengkiloh::{Mesh, Refusal, Type};
+use mengkiloh::{Cell, Mark, Mesh, Refusal, Type};
 
 fn main() -> Result<(), Refusal> {
     // a hillside of two sheets that touch in mark 2, and over it a viaduct: a
     // deck on the edge of marks 1 and 2, which then has three cells
     let mut map = Mesh::with_room(9, 8)?;
-    map.insert(0, Type::Triangle, &[0, 1, 2])?;
-    map.insert(1, Type::Triangle, &[1, 3, 2])?;
-    map.insert(2, Type::Triangle, &[2, 4, 5])?;
-    map.insert(3, Type::Quad, &[1, 2, 6, 7])?;
-    map.insert(4, Type::Bar, &[2, 8])?;
+    map.insert(Cell(0), Type::Triangle, &[0, 1, 2].map(Mark))?;
+    map.insert(Cell(1), Type::Triangle, &[1, 3, 2].map(Mark))?;
+    map.insert(Cell(2), Type::Triangle, &[2, 4, 5].map(Mark))?;
+    map.insert(Cell(3), Type::Quad, &[1, 2, 6, 7].map(Mark))?;
+    map.insert(Cell(4), Type::Bar, &[2, 8].map(Mark))?;
 
-    tell(&map, 2)?;
+    tell(&map, Mark(2))?;
     println!("cell 1 is taken down");
-    map.remove(1)?;
-    tell(&map, 2)?;
+    map.remove(Cell(1))?;
+    tell(&map, Mark(2))?;
 
-    match map.insert(5, Type::Triangle, &[2, 0, 1]) {
+    match map.insert(Cell(5), Type::Triangle, &[2, 0, 1].map(Mark)) {
         Ok(()) => println!("cell 5 stands"),
         Err(refusal) => println!("cell 5 is refused with {}", refusal.number()),
     }
     Ok(())
 }
 
-fn tell(map: &Mesh<Vec<u32>>, mark: u32) -> Result<(), Refusal> {
+fn tell(map: &Mesh<Vec<u32>>, mark: Mark) -> Result<(), Refusal> {
     for dimension in 1..=3 {
+        let cells = map.star(dimension, mark)?;
+        let cells: Vec<String> = cells.iter().map(Cell::to_string).collect();
         println!(
-            "mark {mark}, dimension {dimension}: cells {:?}",
-            map.star(dimension, mark)?
+            "mark {mark}, dimension {dimension}: cells [{}]",
+            cells.join(", ")
         );
     }
     for anchor in map.anchors(2, mark)? {

@@ -6,17 +6,34 @@
 //! none extra.
 //!
 //! ```
-//! use mengkiloh::{Mesh, Type};
+//! use mengkiloh::{Cell, Mark, Mesh, Type};
 //!
 //! # fn main() -> Result<(), mengkiloh::Refusal> {
 //! let mut map = Mesh::with_room(6, 4)?;
-//! map.insert(0, Type::Triangle, &[0, 1, 2])?;
-//! map.insert(1, Type::Triangle, &[2, 1, 3])?;
-//! assert_eq!(map.star(2, 1)?, [0, 1]);
-//! map.remove(0)?;
-//! assert_eq!(map.star(2, 1)?, [1]);
+//! map.insert(Cell(0), Type::Triangle, &[0, 1, 2].map(Mark))?;
+//! map.insert(Cell(1), Type::Triangle, &[2, 1, 3].map(Mark))?;
+//! assert_eq!(map.star(2, Mark(1))?, [0, 1].map(Cell));
+//! map.remove(Cell(0))?;
+//! assert_eq!(map.star(2, Mark(1))?, [Cell(1)]);
 //! # Ok(())
 //! # }
+//! ```
+//!
+//! A [`Mark`], a [`Cell`] and a [`Half`] (a half-facet) are numbers of three
+//! registers: a cell's number where a mark's is due does not compile.
+//!
+//! ```compile_fail,E0308
+//! # use mengkiloh::{Cell, Mark, Mesh};
+//! # let map = Mesh::with_room(6, 4).unwrap();
+//! let (mark, cell) = (Mark(1), Cell(0));
+//! let around = map.star(2, cell);
+//! ```
+//!
+//! ```
+//! # use mengkiloh::{Cell, Mark, Mesh};
+//! # let map = Mesh::with_room(6, 4).unwrap();
+//! let (mark, cell) = (Mark(1), Cell(0));
+//! let around = map.star(2, mark);
 //! ```
 //!
 //! Every call is one of the proved library's, which this crate links; it adds
@@ -24,18 +41,26 @@
 //! [`Refusal`] with its number.
 
 mod calls;
+mod numbers;
+mod records;
 mod refusal;
 
 use std::fmt;
 
+use numbers::Register;
+pub use numbers::{Cell, Half, Mark};
+pub use records::Records;
 pub use refusal::Refusal;
 
-/// A mark or a cell stands in at most so many places of a list: the star, the
-/// anchors and the cycle of anything.
-const LONGEST_LIST: usize = 128;
+/// "Capacities: 0 to 65,535 marks and 0 to 65,535 cells."
+const MOST_CAPACITY: u32 = 65_535;
+
+/// "A mark may stand in at most 128 live cells": no star, no anchors and no
+/// cycle are longer.
+const MOST_AROUND: usize = 128;
 
 /// A cell has at most so many neighbours: 127 across each of 4 facets.
-const MOST_NEIGHBOURS: usize = 4 * 127;
+const MOST_NEIGHBOURS: usize = 4 * (MOST_AROUND - 1);
 
 /// The words that a mesh of these capacities needs.
 pub const fn room(marks: u32, cells: u32) -> usize {
@@ -72,21 +97,21 @@ impl TryFrom<u32> for Type {
     }
 }
 
-/// A half-facet: a facet of a live cell, by its number 8 × cell + facet.
-#[derive(Clone, Copy, Debug, PartialEq, Eq, PartialOrd, Ord, Hash)]
-pub struct Half(pub u32);
-
-impl Half {
-    pub fn cell(self) -> u32 {
-        self.0 / 8
-    }
-
-    pub fn facet(self) -> u32 {
-        self.0 % 8
-    }
-}
-
-/// A walker over one sibling cycle.
+/// A walker over one sibling cycle: its place.
+///
+/// ```
+/// # use mengkiloh::{Cell, Half, Mark, Mesh, Type, Walker};
+/// # fn main() -> Result<(), mengkiloh::Refusal> {
+/// let mut map = Mesh::with_room(6, 4)?;
+/// map.insert(Cell(0), Type::Triangle, &[0, 1, 2].map(Mark))?;
+/// map.insert(Cell(1), Type::Triangle, &[2, 1, 3].map(Mark))?;
+/// let start = Walker(Half::of(Cell(0), 1));
+/// let next = start.step(&map)?;
+/// assert_eq!(next, Walker(Half::of(Cell(1), 0)));
+/// assert_eq!(next.step(&map)?, start);
+/// # Ok(())
+/// # }
+/// ```
 #[derive(Clone, Copy, Debug, PartialEq, Eq)]
 pub struct Walker(pub Half);
 
@@ -125,7 +150,7 @@ impl Mesh<Vec<u32>> {
     /// A mesh of these capacities with no cell, in words of its own.
     pub fn with_room(marks: u32, cells: u32) -> Result<Mesh<Vec<u32>>, Refusal> {
         let mut mesh = Mesh::over(Vec::new());
-        if marks <= 65_535 && cells <= 65_535 {
+        if marks <= MOST_CAPACITY && cells <= MOST_CAPACITY {
             mesh.words.resize(room(marks, cells), 0);
         }
         mesh.format(marks, cells)?;
@@ -158,9 +183,10 @@ impl<W: AsMut<[u32]>> Mesh<W> {
         })
     }
 
-    /// Formats and inserts each record in order: a cell's number, its type's
-    /// code, its marks. A build refused at a record leaves a mesh with no cell.
-    pub fn build(&mut self, marks: u32, cells: u32, records: &[u32]) -> Result<(), BuildRefused> {
+    /// Formats and inserts each record in order. A build refused at a record
+    /// leaves a mesh with no cell.
+    pub fn build(&mut self, marks: u32, cells: u32, records: &Records) -> Result<(), BuildRefused> {
+        let records = records.words();
         let words = self.words.as_mut();
         let mut record = 0;
         // SAFETY: each pointer and count are those of one slice; the words and
@@ -182,18 +208,20 @@ impl<W: AsMut<[u32]>> Mesh<W> {
     /// Inserts a cell under a number of the caller's.
     pub fn insert(
         &mut self,
-        cell: u32,
+        cell: Cell,
         code: impl Into<u32>,
-        marks: &[u32],
+        marks: &[Mark],
     ) -> Result<(), Refusal> {
+        let code = code.into();
+        let marks = numbers::words(marks);
         let words = self.words.as_mut();
         // SAFETY: as in `build`.
         Refusal::from_number(unsafe {
             calls::mk_insert(
                 words.as_mut_ptr(),
                 words.len(),
-                cell,
-                code.into(),
+                cell.0,
+                code,
                 marks.as_ptr(),
                 marks.len(),
             )
@@ -201,10 +229,10 @@ impl<W: AsMut<[u32]>> Mesh<W> {
     }
 
     /// Removes a cell.
-    pub fn remove(&mut self, cell: u32) -> Result<(), Refusal> {
+    pub fn remove(&mut self, cell: Cell) -> Result<(), Refusal> {
         let words = self.words.as_mut();
         // SAFETY: as in `format`.
-        Refusal::from_number(unsafe { calls::mk_remove(words.as_mut_ptr(), words.len(), cell) })
+        Refusal::from_number(unsafe { calls::mk_remove(words.as_mut_ptr(), words.len(), cell.0) })
     }
 }
 
@@ -215,55 +243,65 @@ impl<W: AsRef<[u32]>> Mesh<W> {
     }
 
     /// The code of a cell's type.
-    pub fn type_of(&self, cell: u32) -> Result<u32, Refusal> {
+    pub fn type_of(&self, cell: Cell) -> Result<u32, Refusal> {
         // SAFETY: here and in the other queries, each pointer and count are
         // those of one slice, and what is written is lent to the call alone.
-        self.number(|words, n, code| unsafe { calls::mk_type(words, n, cell, code) })
+        one_number(self.words(), |words, n, code| unsafe {
+            calls::mk_type(words, n, cell.0, code)
+        })
     }
 
     /// The marks of a cell: the very words of the mesh that store them.
-    pub fn marks_of(&self, cell: u32) -> Result<&[u32], Refusal> {
+    pub fn marks_of(&self, cell: Cell) -> Result<&[Mark], Refusal> {
+        let words = self.words();
         let mut count = 0;
-        let at = self
-            .number(|words, n, at| unsafe { calls::mk_marks(words, n, cell, at, &mut count) })?
-            as usize;
-        Ok(&self.words()[at..at + count as usize])
+        let at = one_number(words, |words, n, at| unsafe {
+            calls::mk_marks(words, n, cell.0, at, &mut count)
+        })?;
+        Ok(numbers::numbers(&words[at as usize..][..count as usize]))
     }
 
     /// The next half-facet with the same set of marks.
-    pub fn sibling(&self, cell: u32, facet: u32) -> Result<Half, Refusal> {
-        self.number(|words, n, half| unsafe { calls::mk_sibling(words, n, cell, facet, half) })
-            .map(Half)
+    pub fn sibling(&self, cell: Cell, facet: u32) -> Result<Half, Refusal> {
+        one_number(self.words(), |words, n, half| unsafe {
+            calls::mk_sibling(words, n, cell.0, facet, half)
+        })
+        .map(Half)
     }
 
     /// Whether a half-facet is alone in its set.
-    pub fn border(&self, cell: u32, facet: u32) -> Result<bool, Refusal> {
-        self.number(|words, n, yes| unsafe { calls::mk_border(words, n, cell, facet, yes) })
-            .map(|yes| yes == 1)
+    pub fn border(&self, cell: Cell, facet: u32) -> Result<bool, Refusal> {
+        one_number(self.words(), |words, n, yes| unsafe {
+            calls::mk_border(words, n, cell.0, facet, yes)
+        })
+        .map(|yes| yes == 1)
     }
 
     /// The first anchor of a mark in a dimension, if there is one.
-    pub fn first_anchor(&self, dimension: u32, mark: u32) -> Result<Option<Half>, Refusal> {
+    pub fn first_anchor(&self, dimension: u32, mark: Mark) -> Result<Option<Half>, Refusal> {
         let mut half = 0;
-        let found = self.number(|words, n, found| unsafe {
-            calls::mk_first_anchor(words, n, dimension, mark, found, &mut half)
+        let found = one_number(self.words(), |words, n, found| unsafe {
+            calls::mk_first_anchor(words, n, dimension, mark.0, found, &mut half)
         })?;
         Ok((found == 1).then_some(Half(half)))
     }
 
     /// The smallest half-facet with this set of 1 to 3 marks, if there is one.
-    pub fn lookup(&self, set: &[u32]) -> Result<Option<Half>, Refusal> {
+    pub fn lookup(&self, set: &[Mark]) -> Result<Option<Half>, Refusal> {
+        let set = numbers::words(set);
         let mut half = 0;
-        let found = self.number(|words, n, found| unsafe {
+        let found = one_number(self.words(), |words, n, found| unsafe {
             calls::mk_lookup(words, n, set.as_ptr(), set.len(), found, &mut half)
         })?;
         Ok((found == 1).then_some(Half(half)))
     }
 
-    /// How many live cells a type has.
+    /// How many live cells a type has, as the head says it.
     pub fn count(&self, code: impl Into<u32>) -> Result<u32, Refusal> {
         let code = code.into();
-        self.number(|words, n, count| unsafe { calls::mk_count(words, n, code, count) })
+        one_number(self.words(), |words, n, count| unsafe {
+            calls::mk_count(words, n, code, count)
+        })
     }
 
     /// Whether the words are a well-formed mesh.
@@ -273,106 +311,129 @@ impl<W: AsRef<[u32]>> Mesh<W> {
     }
 
     /// The cells of a dimension that hold a mark, ascending.
-    pub fn star(&self, dimension: u32, mark: u32) -> Result<Vec<u32>, Refusal> {
-        listed(LONGEST_LIST, |out| self.star_into(dimension, mark, out))
+    pub fn star(&self, dimension: u32, mark: Mark) -> Result<Vec<Cell>, Refusal> {
+        listed(MOST_AROUND, |out| self.star_into(dimension, mark, out))
     }
 
     /// The star in the first places of `out`; how many they are.
-    pub fn star_into(&self, dimension: u32, mark: u32, out: &mut [u32]) -> Result<usize, Refusal> {
-        self.list(out, |words, n, out, room, count| unsafe {
-            calls::mk_star(words, n, dimension, mark, out, room, count)
+    pub fn star_into(
+        &self,
+        dimension: u32,
+        mark: Mark,
+        out: &mut [Cell],
+    ) -> Result<usize, Refusal> {
+        one_list(self.words(), out, |words, n, out, room, count| unsafe {
+            calls::mk_star(words, n, dimension, mark.0, out, room, count)
         })
     }
 
     /// The anchors of a mark in a dimension, ascending.
-    pub fn anchors(&self, dimension: u32, mark: u32) -> Result<Vec<Half>, Refusal> {
-        listed(LONGEST_LIST, |out| self.anchors_into(dimension, mark, out)).map(halves)
+    pub fn anchors(&self, dimension: u32, mark: Mark) -> Result<Vec<Half>, Refusal> {
+        listed(MOST_AROUND, |out| self.anchors_into(dimension, mark, out))
     }
 
-    /// The numbers of the anchors in the first places of `out`; how many they
-    /// are.
+    /// The anchors in the first places of `out`; how many they are.
     pub fn anchors_into(
         &self,
         dimension: u32,
-        mark: u32,
-        out: &mut [u32],
+        mark: Mark,
+        out: &mut [Half],
     ) -> Result<usize, Refusal> {
-        self.list(out, |words, n, out, room, count| unsafe {
-            calls::mk_anchors(words, n, dimension, mark, out, room, count)
+        one_list(self.words(), out, |words, n, out, room, count| unsafe {
+            calls::mk_anchors(words, n, dimension, mark.0, out, room, count)
         })
     }
 
     /// The whole cycle of a half-facet, itself first.
-    pub fn cycle(&self, cell: u32, facet: u32) -> Result<Vec<Half>, Refusal> {
-        listed(LONGEST_LIST, |out| self.cycle_into(cell, facet, out)).map(halves)
+    pub fn cycle(&self, cell: Cell, facet: u32) -> Result<Vec<Half>, Refusal> {
+        listed(MOST_AROUND, |out| self.cycle_into(cell, facet, out))
     }
 
-    /// The numbers of the cycle in the first places of `out`; how many they
-    /// are.
-    pub fn cycle_into(&self, cell: u32, facet: u32, out: &mut [u32]) -> Result<usize, Refusal> {
-        self.list(out, |words, n, out, room, count| unsafe {
-            calls::mk_cycle(words, n, cell, facet, out, room, count)
+    /// The cycle in the first places of `out`; how many they are.
+    pub fn cycle_into(&self, cell: Cell, facet: u32, out: &mut [Half]) -> Result<usize, Refusal> {
+        one_list(self.words(), out, |words, n, out, room, count| unsafe {
+            calls::mk_cycle(words, n, cell.0, facet, out, room, count)
         })
     }
 
     /// The other cells that share a facet with a cell, ascending.
-    pub fn neighbours(&self, cell: u32) -> Result<Vec<u32>, Refusal> {
+    pub fn neighbours(&self, cell: Cell) -> Result<Vec<Cell>, Refusal> {
         listed(MOST_NEIGHBOURS, |out| self.neighbours_into(cell, out))
     }
 
     /// The neighbours in the first places of `out`; how many they are.
-    pub fn neighbours_into(&self, cell: u32, out: &mut [u32]) -> Result<usize, Refusal> {
-        self.list(out, |words, n, out, room, count| unsafe {
-            calls::mk_neighbours(words, n, cell, out, room, count)
+    pub fn neighbours_into(&self, cell: Cell, out: &mut [Cell]) -> Result<usize, Refusal> {
+        one_list(self.words(), out, |words, n, out, room, count| unsafe {
+            calls::mk_neighbours(words, n, cell.0, out, room, count)
         })
     }
 
-    /// The live cells of a type, ascending.
-    pub fn cells(&self, code: impl Into<u32>) -> Result<Vec<u32>, Refusal> {
+    /// The live cells of a type, ascending. Memory whose head counts more of
+    /// them than it has room for is no well-formed mesh; the refusal is then
+    /// [`Refusal::OutputShort`].
+    pub fn cells(&self, code: impl Into<u32>) -> Result<Vec<Cell>, Refusal> {
         let code = code.into();
-        let most = self.count(code)? as usize;
-        listed(most, |out| self.cells_into(code, out))
+        let words = self.words();
+        let count = one_number(words, |words, n, count| unsafe {
+            calls::mk_count(words, n, code, count)
+        })?;
+        // the count is a number that stands in memory, and may be any
+        listed(most_cells(words).min(count as usize), |out| {
+            cells_into(words, code, out)
+        })
     }
 
     /// The cells of a type in the first places of `out`; how many they are.
-    pub fn cells_into(&self, code: impl Into<u32>, out: &mut [u32]) -> Result<usize, Refusal> {
+    pub fn cells_into(&self, code: impl Into<u32>, out: &mut [Cell]) -> Result<usize, Refusal> {
         let code = code.into();
-        self.list(out, |words, n, out, room, count| unsafe {
-            calls::mk_cells(words, n, code, out, room, count)
-        })
+        cells_into(self.words(), code, out)
     }
+}
 
-    /// A call that gives one number.
-    fn number(&self, call: impl FnOnce(*const u32, usize, &mut u32) -> u8) -> Result<u32, Refusal> {
-        let words = self.words();
-        let mut given = 0;
-        Refusal::from_number(call(words.as_ptr(), words.len(), &mut given))?;
-        Ok(given)
-    }
+fn cells_into(words: &[u32], code: u32, out: &mut [Cell]) -> Result<usize, Refusal> {
+    one_list(words, out, |words, n, out, room, count| unsafe {
+        calls::mk_cells(words, n, code, out, room, count)
+    })
+}
 
-    /// A call that gives a list.
-    fn list(
-        &self,
-        out: &mut [u32],
-        call: impl FnOnce(*const u32, usize, *mut u32, usize, &mut u32) -> u8,
-    ) -> Result<usize, Refusal> {
-        let (to, room) = (out.as_mut_ptr(), out.len());
-        self.number(|words, n, count| call(words, n, to, room, count))
-            .map(|count| count as usize)
-    }
+/// A mesh in these words has at most so many cells: the capacity that its head
+/// gives, and never more than 65,535.
+fn most_cells(words: &[u32]) -> usize {
+    words
+        .get(2)
+        .map_or(0, |&cells| cells.min(MOST_CAPACITY) as usize)
+}
+
+/// A call that gives one number.
+fn one_number(
+    words: &[u32],
+    call: impl FnOnce(*const u32, usize, &mut u32) -> u8,
+) -> Result<u32, Refusal> {
+    let mut given = 0;
+    Refusal::from_number(call(words.as_ptr(), words.len(), &mut given))?;
+    Ok(given)
+}
+
+/// A call that gives a list in the first places of `out`.
+fn one_list<T: Register>(
+    words: &[u32],
+    out: &mut [T],
+    call: impl FnOnce(*const u32, usize, *mut u32, usize, &mut u32) -> u8,
+) -> Result<usize, Refusal> {
+    let out = numbers::words_mut(out);
+    one_number(words, |words, n, count| {
+        call(words, n, out.as_mut_ptr(), out.len(), count)
+    })
+    .map(|count| count as usize)
 }
 
 /// A list of at most so many numbers.
-fn listed(
+fn listed<T: Register>(
     most: usize,
-    fill: impl FnOnce(&mut [u32]) -> Result<usize, Refusal>,
-) -> Result<Vec<u32>, Refusal> {
-    let mut list = vec![0; most];
+    fill: impl FnOnce(&mut [T]) -> Result<usize, Refusal>,
+) -> Result<Vec<T>, Refusal> {
+    let mut list = vec![T::default(); most];
     let count = fill(&mut list)?;
     list.truncate(count);
     Ok(list)
-}
-
-fn halves(numbers: Vec<u32>) -> Vec<Half> {
-    numbers.into_iter().map(Half).collect()
 }

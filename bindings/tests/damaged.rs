@@ -6,8 +6,8 @@
 
 mod common;
 
-use common::{told, Chance, Question, SENTINEL};
-use mengkiloh::{room, Mesh};
+use common::{plain, told, Chance, Number, Question, SENTINEL};
+use mengkiloh::{room, Cell, Mark, Mesh, Records, Refusal};
 
 const MARKS: u32 = 7;
 const CELLS: u32 = 10;
@@ -56,13 +56,13 @@ fn good_memory(chance: &mut Chance) -> Vec<u32> {
 }
 
 fn edit<W: AsMut<[u32]>>(chance: &mut Chance, mesh: &mut Mesh<W>) -> bool {
-    let cell = chance.below(CELLS + 1);
+    let cell = Cell(chance.below(CELLS + 1));
     if chance.below(4) == 0 {
         return mesh.remove(cell).is_ok();
     }
     let code = 1 + chance.below(4);
     let count = [0, 2, 3, 4, 4][code as usize];
-    let marks: Vec<u32> = (0..count).map(|_| chance.below(MARKS)).collect();
+    let marks: Vec<Mark> = (0..count).map(|_| Mark(chance.below(MARKS))).collect();
     mesh.insert(cell, code, &marks).is_ok()
 }
 
@@ -85,7 +85,7 @@ fn damage(chance: &mut Chance, words: &mut Vec<u32>) -> bool {
         6 => {
             for _ in 0..1 + chance.below(4) {
                 let at = any(chance, words);
-                words[at] = chance.below(16);
+                words[at] = small_number(chance);
             }
         }
         7 => {
@@ -95,11 +95,20 @@ fn damage(chance: &mut Chance, words: &mut Vec<u32>) -> bool {
         _ => {
             // a mesh's head over small numbers: links that lead anywhere
             for word in &mut words[3..] {
-                *word = chance.below(CELLS + 2);
+                *word = small_number(chance);
             }
         }
     }
     *words != before
+}
+
+/// One that a type, a mark or a count might be, or a link or a half-facet: 8 ×
+/// cell + corner + 1, 8 × cell + facet (docs/LAYOUT.md).
+fn small_number(chance: &mut Chance) -> u32 {
+    match chance.below(2) {
+        0 => chance.below(CELLS + 2),
+        _ => chance.below(8 * CELLS + 2),
+    }
 }
 
 /// A call of any kind; how many were made.
@@ -128,7 +137,7 @@ fn one_call(chance: &mut Chance, words: &mut Vec<u32>) -> u64 {
         }
         2 => {
             let records: Vec<u32> = (0..chance.below(12)).map(|_| chance.below(8)).collect();
-            let built = Mesh::over(&mut words[..]).build(MARKS, CELLS, &records);
+            let built = Mesh::over(&mut words[..]).build(MARKS, CELLS, &Records::from(records));
             match built.map_err(|refused| refused.refusal.number()) {
                 Err(1 | 2) => assert_eq!(*words, before),
                 _ => {
@@ -156,20 +165,24 @@ fn one_call(chance: &mut Chance, words: &mut Vec<u32>) -> u64 {
 /// places.
 fn lists_leave_the_rest(chance: &mut Chance, words: &[u32]) {
     let mesh = Mesh::over(words);
-    let mut out = [SENTINEL; 40];
     let room = chance.below(33) as usize;
-    let cell = chance.below(CELLS);
-    let mark = chance.below(MARKS);
-    let answer = match chance.below(5) {
-        0 => mesh.star_into(1 + chance.below(3), mark, &mut out[..room]),
-        1 => mesh.anchors_into(1 + chance.below(3), mark, &mut out[..room]),
-        2 => mesh.cycle_into(cell, chance.below(4), &mut out[..room]),
-        3 => mesh.neighbours_into(cell, &mut out[..room]),
-        _ => mesh.cells_into(1 + chance.below(4), &mut out[..room]),
-    };
-    let given = answer.unwrap_or(0);
+    let cell = Cell(chance.below(CELLS));
+    let mark = Mark(chance.below(MARKS));
+    let dimension = 1 + chance.below(3);
+    match chance.below(5) {
+        0 => leaves_the_rest(room, |out| mesh.star_into(dimension, mark, out)),
+        1 => leaves_the_rest(room, |out| mesh.anchors_into(dimension, mark, out)),
+        2 => leaves_the_rest(room, |out| mesh.cycle_into(cell, chance.below(4), out)),
+        3 => leaves_the_rest(room, |out| mesh.neighbours_into(cell, out)),
+        _ => leaves_the_rest(room, |out| mesh.cells_into(1 + chance.below(4), out)),
+    }
+}
+
+fn leaves_the_rest<T: Number>(room: usize, fill: impl FnOnce(&mut [T]) -> Result<usize, Refusal>) {
+    let mut out = [T::from(SENTINEL); 40];
+    let given = fill(&mut out[..room]).unwrap_or(0);
     assert!(given <= room);
-    assert!(out[given..].iter().all(|&word| word == SENTINEL));
+    assert!(plain(&out[given..]).iter().all(|&word| word == SENTINEL));
 }
 
 fn draw(chance: &mut Chance) -> Question {

@@ -2,15 +2,15 @@
 
 mod common;
 
-use common::{numbers, SENTINEL};
-use mengkiloh::{room, BuildRefused, Mesh, Refusal, Type};
+use common::{plain, Number, SENTINEL};
+use mengkiloh::{room, BuildRefused, Cell, Half, Mark, Mesh, Records, Refusal, Type};
 
 #[test]
 fn capacities_go_to_65535() {
     let mut words = vec![SENTINEL; room(65_535, 65_535) + 1];
     for (marks, cells) in [(65_536, 0), (0, 65_536), (u32::MAX, 0), (0, u32::MAX)] {
         let answer = Mesh::over(&mut words[..]).format(marks, cells);
-        assert_eq!(answer, Err(Refusal::CapacityTooLarge));
+        assert_eq!(answer, Err(Refusal::CapacityAbove));
         assert!(words.iter().all(|&word| word == SENTINEL));
     }
     for (marks, cells) in [(65_535, 65_535), (65_535, 0), (0, 65_535), (0, 0)] {
@@ -26,7 +26,7 @@ fn the_room_fits_exactly_and_not_one_word_short() {
         let exact = room(marks, cells);
         let mut words = vec![SENTINEL; exact + 1];
         let short = Mesh::over(&mut words[..exact - 1]).format(marks, cells);
-        assert_eq!(short, Err(Refusal::MemoryTooShort));
+        assert_eq!(short, Err(Refusal::MemoryShort));
         assert!(words.iter().all(|&word| word == SENTINEL));
         assert_eq!(Mesh::over(&mut words[..exact]).format(marks, cells), Ok(()));
         assert_eq!(words[exact], SENTINEL);
@@ -41,18 +41,22 @@ fn the_room_fits_exactly_and_not_one_word_short() {
 fn a_mark_takes_128_cells_and_not_129() {
     let mut map = Mesh::with_room(200, 200).expect("a mesh of its own");
     for cell in 0..128 {
-        assert_eq!(map.insert(cell, Type::Bar, &[0, cell + 1]), Ok(()));
+        let bar = map.insert(Cell(cell), Type::Bar, &[0, cell + 1].map(Mark));
+        assert_eq!(bar, Ok(()));
     }
     let before = map.words().to_vec();
-    let answer = map.insert(128, Type::Bar, &[0, 150]);
+    let answer = map.insert(Cell(128), Type::Bar, &[0, 150].map(Mark));
     assert_eq!(answer, Err(Refusal::MarkFull));
-    let answer = map.insert(128, Type::Triangle, &[150, 151, 0]);
+    let answer = map.insert(Cell(128), Type::Triangle, &[150, 151, 0].map(Mark));
     assert_eq!(answer, Err(Refusal::MarkFull));
     assert_eq!(map.words(), before);
-    assert_eq!(map.star(1, 0), Ok((0..128).collect()));
-    assert_eq!(map.anchors(1, 0).map(|list| list.len()), Ok(1));
-    assert_eq!(map.remove(17), Ok(()));
-    assert_eq!(map.insert(128, Type::Bar, &[0, 150]), Ok(()));
+    assert_eq!(map.star(1, Mark(0)), Ok((0..128).map(Cell).collect()));
+    assert_eq!(map.anchors(1, Mark(0)).map(|list| list.len()), Ok(1));
+    assert_eq!(map.remove(Cell(17)), Ok(()));
+    assert_eq!(
+        map.insert(Cell(128), Type::Bar, &[0, 150].map(Mark)),
+        Ok(())
+    );
     assert!(map.whole());
 }
 
@@ -60,44 +64,38 @@ fn a_mark_takes_128_cells_and_not_129() {
 fn a_list_fits_exactly_and_not_one_place_short() {
     let mut map = Mesh::with_room(20, 20).expect("a mesh of its own");
     for cell in 0..9 {
-        let sheet = map.insert(cell, Type::Triangle, &[0, 1, 2 + cell]);
+        let sheet = map.insert(Cell(cell), Type::Triangle, &[0, 1, 2 + cell].map(Mark));
         assert_eq!(sheet, Ok(()));
     }
-    type Fill = fn(&Mesh<Vec<u32>>, &mut [u32]) -> Result<usize, Refusal>;
-    let lists: [(Fill, Vec<u32>); 5] = [
-        (|map, out| map.star_into(2, 1, out), (0..9).collect()),
-        (|map, out| map.anchors_into(2, 0, out), vec![2]),
-        (
-            |map, out| map.cycle_into(3, 0, out),
-            (0..9).map(|turn| (3 + turn) % 9 * 8).collect(),
-        ),
-        (|map, out| map.neighbours_into(0, out), (1..9).collect()),
-        (
-            |map, out| map.cells_into(Type::Triangle, out),
-            (0..9).collect(),
-        ),
-    ];
-    for (fill, list) in lists {
-        let mut out = vec![SENTINEL; list.len() + 3];
-        let exact = fill(&map, &mut out[..list.len()]);
-        assert_eq!(exact, Ok(list.len()));
-        assert_eq!(out[..list.len()], list);
-        assert!(out[list.len()..].iter().all(|&word| word == SENTINEL));
-        out.fill(SENTINEL);
-        let short = fill(&map, &mut out[..list.len() - 1]);
-        assert_eq!(short, Err(Refusal::BufferTooShort));
-        assert!(out.iter().all(|&word| word == SENTINEL));
-    }
+    let all: Vec<Cell> = (0..9).map(Cell).collect();
+    let round: Vec<Half> = (0..9).map(|turn| Half((3 + turn) % 9 * 8)).collect();
+    fits(&all, |out| map.star_into(2, Mark(1), out));
+    fits(&[Half(2)], |out| map.anchors_into(2, Mark(0), out));
+    fits(&round, |out| map.cycle_into(Cell(3), 0, out));
+    fits(&all[1..], |out| map.neighbours_into(Cell(0), out));
+    fits(&all, |out| map.cells_into(Type::Triangle, out));
+}
+
+fn fits<T: Number>(list: &[T], fill: impl Fn(&mut [T]) -> Result<usize, Refusal>) {
+    let mut out = vec![T::from(SENTINEL); list.len() + 3];
+    let short = fill(&mut out[..list.len() - 1]);
+    assert_eq!(short, Err(Refusal::OutputShort));
+    assert!(plain(&out).iter().all(|&word| word == SENTINEL));
+    let exact = fill(&mut out[..list.len()]);
+    assert_eq!(exact, Ok(list.len()));
+    assert_eq!(plain(&out[..list.len()]), plain(list));
+    let rest = plain(&out[list.len()..]);
+    assert!(rest.iter().all(|&word| word == SENTINEL));
 }
 
 /// A strip of triangles: cell c on the marks c, c + 1 and c + 2.
-fn strip(cells: u32, marks: u32) -> Vec<u32> {
-    (0..cells)
-        .flat_map(|cell| {
-            let [a, b, c] = [0, 1, 2].map(|step| (cell + step) % marks);
-            [cell, u32::from(Type::Triangle), a, b, c]
-        })
-        .collect()
+fn strip(cells: u32, marks: u32) -> Records {
+    let mut records = Records::new();
+    for cell in 0..cells {
+        let corners = [0, 1, 2].map(|step| Mark((cell + step) % marks));
+        records.add(Cell(cell), Type::Triangle, &corners);
+    }
+    records
 }
 
 #[test]
@@ -108,22 +106,26 @@ fn a_full_mesh_is_built_and_whole() {
     assert_eq!(map.build(65_535, 65_535, &strip(65_535, 65_535)), Ok(()));
     assert!(map.whole());
     assert_eq!(map.count(Type::Triangle), Ok(65_535));
-    assert_eq!(map.star(2, 40_000), Ok(vec![39_998, 39_999, 40_000]));
-    assert_eq!(map.star(2, 0), Ok(vec![0, 65_533, 65_534]));
-    assert_eq!(map.neighbours(30_000), Ok(vec![29_999, 30_001]));
-    let cycle = map.cycle(30_000, 1).map(numbers);
-    assert_eq!(cycle, Ok(vec![8 * 30_000 + 1, 8 * 30_001]));
-    assert_eq!(
-        map.insert(65_535, Type::Bar, &[0, 1]),
-        Err(Refusal::UnknownCell)
-    );
-    assert_eq!(map.remove(30_000), Ok(()));
+    let all = map.cells(Type::Triangle);
+    assert_eq!(all, Ok((0..65_535).map(Cell).collect()));
+    let star = map.star(2, Mark(40_000));
+    assert_eq!(star, Ok([39_998, 39_999, 40_000].map(Cell).to_vec()));
+    let star = map.star(2, Mark(0));
+    assert_eq!(star, Ok([0, 65_533, 65_534].map(Cell).to_vec()));
+    let near = map.neighbours(Cell(30_000));
+    assert_eq!(near, Ok([29_999, 30_001].map(Cell).to_vec()));
+    let cycle = map.cycle(Cell(30_000), 1);
+    let (here, there) = (Half::of(Cell(30_000), 1), Half::of(Cell(30_001), 0));
+    assert_eq!(cycle, Ok(vec![here, there]));
+    let beyond = map.insert(Cell(65_535), Type::Bar, &[0, 1].map(Mark));
+    assert_eq!(beyond, Err(Refusal::CellOutside));
+    assert_eq!(map.remove(Cell(30_000)), Ok(()));
     assert!(map.whole());
-    assert_eq!(map.star(2, 30_001), Ok(vec![29_999, 30_001]));
-    assert_eq!(
-        map.insert(30_000, Type::Triangle, &[30_000, 30_001, 30_002]),
-        Ok(())
-    );
+    let star = map.star(2, Mark(30_001));
+    assert_eq!(star, Ok([29_999, 30_001].map(Cell).to_vec()));
+    let marks = [30_000, 30_001, 30_002].map(Mark);
+    assert_eq!(map.insert(Cell(30_000), Type::Triangle, &marks), Ok(()));
+    assert_eq!(map.marks_of(Cell(30_000)), Ok(&marks[..]));
     let mut afresh = Mesh::over(vec![7; exact]);
     assert_eq!(afresh.build(65_535, 65_535, &strip(65_535, 65_535)), Ok(()));
     assert_eq!(afresh.words(), map.words());
@@ -133,21 +135,21 @@ fn a_full_mesh_is_built_and_whole() {
 #[test]
 fn a_build_refused_at_a_record_leaves_no_cell() {
     let mut records = strip(100, 300);
-    records.extend([100, 2, 0, 1, 2]);
-    records.extend(strip(1, 300));
+    records.add(Cell(100), Type::Triangle, &[0, 1, 2].map(Mark));
+    records.add(Cell(0), Type::Triangle, &[0, 1, 2].map(Mark));
     let mut map = Mesh::over(vec![SENTINEL; room(300, 200) + 2]);
     let refused = BuildRefused {
-        refusal: Refusal::SameMarks,
+        refusal: Refusal::CellSame,
         record: 100,
     };
     assert_eq!(map.build(300, 200, &records), Err(refused));
     assert!(map.whole());
     assert_eq!(map.count(Type::Triangle), Ok(0));
-    let cut = map.build(300, 200, &strip(3, 300)[..14]);
+    let cut = Records::from(strip(3, 300).words()[..14].to_vec());
     let refused = BuildRefused {
-        refusal: Refusal::WrongCount,
+        refusal: Refusal::CountWrong,
         record: 2,
     };
-    assert_eq!(cut, Err(refused));
+    assert_eq!(map.build(300, 200, &cut), Err(refused));
     assert_eq!(map.words()[room(300, 200)..], [SENTINEL; 2]);
 }

@@ -2,8 +2,8 @@
 
 mod common;
 
-use common::{ours, records, theirs, Chance, Question, SENTINEL};
-use mengkiloh::{room, Mesh};
+use common::{marks, ours, records, theirs, Chance, Question, SENTINEL};
+use mengkiloh::{room, Cell, Mesh};
 use second::map::LiveCell;
 use second::Memory;
 
@@ -96,7 +96,8 @@ fn one_edit(chance: &mut Chance, size: &Size, memory: &mut [u32], second: &mut M
             .flat_map(|cell| cell.marks.iter().map(|mark| mark.0))
             .collect();
         let expected = theirs(second.remove(cell), |()| vec![]);
-        (ours(mesh.remove(cell), |()| vec![]), expected, touched)
+        let answer = ours(mesh.remove(Cell(cell)), |()| vec![]);
+        (answer, expected, touched)
     } else {
         let code = match chance.below(40) {
             0 => chance.below(7),
@@ -106,10 +107,10 @@ fn one_edit(chance: &mut Chance, size: &Size, memory: &mut [u32], second: &mut M
             0 => chance.below(6),
             _ => [0, 2, 3, 4, 4, 3, 3][code as usize],
         };
-        let marks: Vec<u32> = (0..count).map(|_| draw_mark(chance, size)).collect();
-        let expected = theirs(second.insert(cell, code, &marks), |()| vec![]);
-        let answer = ours(mesh.insert(cell, code, &marks), |()| vec![]);
-        (answer, expected, marks)
+        let drawn: Vec<u32> = (0..count).map(|_| draw_mark(chance, size)).collect();
+        let expected = theirs(second.insert(cell, code, &drawn), |()| vec![]);
+        let answer = mesh.insert(Cell(cell), code, &marks(&drawn));
+        (ours(answer, |()| vec![]), expected, drawn)
     };
     assert_eq!(answer, expected);
     if answer.0 != 0 {

@@ -104,7 +104,7 @@ impl Memory {
     /// insert with too few marks, and one of unknown type has none to count.
     fn insert_record<'a>(&mut self, words: &'a [u32]) -> Result<&'a [u32], Refusal> {
         let [cell, code, left @ ..] = words else {
-            return Err(Refusal::WrongCount);
+            return Err(Refusal::CountWrong);
         };
         let due = type_with_code(*code).map_or(0, |row| row.marks);
         let (marks, after) = left.split_at(due.min(left.len()));
@@ -286,17 +286,17 @@ impl Walker {
 /// 1: "a capacity is above 65,535"
 fn capacities_in_range(marks: u32, cells: u32) -> Result<(), Refusal> {
     let above = marks > LARGEST_CAPACITY || cells > LARGEST_CAPACITY;
-    refuse_if(above, Refusal::CapacityTooLarge)
+    refuse_if(above, Refusal::CapacityAbove)
 }
 
 /// 2: "at format or build, memory is shorter than the room"
 fn room_fits(words: usize, marks: u32, cells: u32) -> Result<(), Refusal> {
-    refuse_if(words < room(marks, cells), Refusal::MemoryTooShort)
+    refuse_if(words < room(marks, cells), Refusal::MemoryShort)
 }
 
 /// 3: "a cell number is not below the capacity"
 fn cell_below_capacity(mesh: &Mesh, cell: u32) -> Result<Cell, Refusal> {
-    refuse_if(cell >= mesh.cells, Refusal::UnknownCell)?;
+    refuse_if(cell >= mesh.cells, Refusal::CellOutside)?;
     Ok(Cell(cell))
 }
 
@@ -313,27 +313,27 @@ fn is_live(mesh: &Mesh, number: Cell) -> Result<&LiveCell, Refusal> {
 
 /// 6: "type code not in the table"
 fn known_type(code: u32) -> Result<&'static Type, Refusal> {
-    type_with_code(code).ok_or(Refusal::UnknownType)
+    type_with_code(code).ok_or(Refusal::TypeUnknown)
 }
 
 /// 6: "or dimension not 1 to 3"
 fn known_dimension(dimension: u32) -> Result<(), Refusal> {
-    refuse_if(!DIMENSIONS.contains(&dimension), Refusal::UnknownType)
+    refuse_if(!DIMENSIONS.contains(&dimension), Refusal::TypeUnknown)
 }
 
 /// 7: "wrong count of marks for the type"
 fn count_for_type(row: &Type, marks: &[u32]) -> Result<(), Refusal> {
-    refuse_if(marks.len() != row.marks, Refusal::WrongCount)
+    refuse_if(marks.len() != row.marks, Refusal::CountWrong)
 }
 
 /// 7: "or the lookup"
 fn count_for_lookup(set: &[u32]) -> Result<(), Refusal> {
-    refuse_if(!LOOKUP_MARKS.contains(&set.len()), Refusal::WrongCount)
+    refuse_if(!LOOKUP_MARKS.contains(&set.len()), Refusal::CountWrong)
 }
 
 /// 8: "a mark is not below the capacity"
 fn mark_below_capacity(mesh: &Mesh, mark: u32) -> Result<Mark, Refusal> {
-    refuse_if(mark >= mesh.marks, Refusal::UnknownMark)?;
+    refuse_if(mark >= mesh.marks, Refusal::MarkOutside)?;
     Ok(Mark(mark))
 }
 
@@ -348,14 +348,14 @@ fn marks_below_capacity(mesh: &Mesh, marks: &[u32]) -> Result<Vec<Mark>, Refusal
 /// 9: "a mark occurs twice"
 fn each_once(marks: &[Mark]) -> Result<(), Refusal> {
     let twice = (1..marks.len()).any(|place| marks[..place].contains(&marks[place]));
-    refuse_if(twice, Refusal::RepeatedMark)
+    refuse_if(twice, Refusal::MarkTwice)
 }
 
 /// 10: "a live cell of that type has the same set of marks"
 fn no_same_cell(mesh: &Mesh, row: &Type, marks: &[Mark]) -> Result<(), Refusal> {
     let of_type = map::cells_of_type(&mesh.live, row);
     let same = of_type.iter().any(|cell| map::same_set(&cell.marks, marks));
-    refuse_if(same, Refusal::SameMarks)
+    refuse_if(same, Refusal::CellSame)
 }
 
 /// 11: "one of the marks stands in 128 live cells already"
@@ -368,7 +368,7 @@ fn no_full_mark(mesh: &Mesh, marks: &[Mark]) -> Result<(), Refusal> {
 
 /// 12: "output buffer shorter than the list"
 fn list_fits(list: Vec<u32>, room: usize) -> Result<Vec<u32>, Refusal> {
-    refuse_if(room < list.len(), Refusal::BufferTooShort)?;
+    refuse_if(room < list.len(), Refusal::OutputShort)?;
     Ok(list)
 }
 
@@ -377,7 +377,7 @@ fn facet_below_count(cell: &LiveCell, facet: u32) -> Result<HalfFacet, Refusal> 
     map::half_facets_of(cell)
         .into_iter()
         .find(|half| half.facet == facet)
-        .ok_or(Refusal::UnknownFacet)
+        .ok_or(Refusal::FacetOutside)
 }
 
 fn refuse_if(condition: bool, refusal: Refusal) -> Result<(), Refusal> {

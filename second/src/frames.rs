@@ -111,7 +111,7 @@ impl Program {
         match frame {
             Frame::Format { marks, cells } => {
                 if marks > MOST_MARKS || cells > MOST_CELLS {
-                    return Err(Refusal::CapacityTooLarge);
+                    return Err(Refusal::CapacityAbove);
                 }
                 memory.format(marks, cells).map(nothing)
             }

@@ -1,23 +1,24 @@
-//! The refusal numbers, as the outline's table gives them.
+//! The refusal numbers, as the outline's table gives them, with the names of
+//! `map::Refusal`.
 
 use std::fmt;
 
 /// Why a call was refused. The values are the numbers of the table.
 #[derive(Clone, Copy, Debug, PartialEq, Eq, PartialOrd, Ord)]
 pub enum Refusal {
-    CapacityTooLarge = 1,
-    MemoryTooShort = 2,
-    UnknownCell = 3,
+    CapacityAbove = 1,
+    MemoryShort = 2,
+    CellOutside = 3,
     CellLive = 4,
     CellNotLive = 5,
-    UnknownType = 6,
-    WrongCount = 7,
-    UnknownMark = 8,
-    RepeatedMark = 9,
-    SameMarks = 10,
+    TypeUnknown = 6,
+    CountWrong = 7,
+    MarkOutside = 8,
+    MarkTwice = 9,
+    CellSame = 10,
     MarkFull = 11,
-    BufferTooShort = 12,
-    UnknownFacet = 13,
+    OutputShort = 12,
+    FacetOutside = 13,
     NotMesh = 14,
     BadFrame = 15,
 }
@@ -25,19 +26,19 @@ pub enum Refusal {
 impl Refusal {
     /// All of them, by number.
     pub const ALL: [Refusal; 15] = [
-        Refusal::CapacityTooLarge,
-        Refusal::MemoryTooShort,
-        Refusal::UnknownCell,
+        Refusal::CapacityAbove,
+        Refusal::MemoryShort,
+        Refusal::CellOutside,
         Refusal::CellLive,
         Refusal::CellNotLive,
-        Refusal::UnknownType,
-        Refusal::WrongCount,
-        Refusal::UnknownMark,
-        Refusal::RepeatedMark,
-        Refusal::SameMarks,
+        Refusal::TypeUnknown,
+        Refusal::CountWrong,
+        Refusal::MarkOutside,
+        Refusal::MarkTwice,
+        Refusal::CellSame,
         Refusal::MarkFull,
-        Refusal::BufferTooShort,
-        Refusal::UnknownFacet,
+        Refusal::OutputShort,
+        Refusal::FacetOutside,
         Refusal::NotMesh,
         Refusal::BadFrame,
     ];
@@ -50,21 +51,21 @@ impl Refusal {
     /// When it is given, in the table's words.
     pub fn meaning(self) -> &'static str {
         match self {
-            Refusal::CapacityTooLarge => "a capacity is above 65,535",
-            Refusal::MemoryTooShort => "at format or build, memory is shorter than the room",
-            Refusal::UnknownCell => "a cell number is not below the capacity",
+            Refusal::CapacityAbove => "a capacity is above 65,535",
+            Refusal::MemoryShort => "at format or build, memory is shorter than the room",
+            Refusal::CellOutside => "a cell number is not below the capacity",
             Refusal::CellLive => "insert: the number is live",
             Refusal::CellNotLive => "the cell is not live",
-            Refusal::UnknownType => "type code not in the table, or dimension not 1 to 3",
-            Refusal::WrongCount => {
+            Refusal::TypeUnknown => "type code not in the table, or dimension not 1 to 3",
+            Refusal::CountWrong => {
                 "wrong count of marks for the type or the lookup, or a build record cut short"
             }
-            Refusal::UnknownMark => "a mark is not below the capacity",
-            Refusal::RepeatedMark => "a mark occurs twice",
-            Refusal::SameMarks => "a live cell of that type has the same set of marks",
+            Refusal::MarkOutside => "a mark is not below the capacity",
+            Refusal::MarkTwice => "a mark occurs twice",
+            Refusal::CellSame => "a live cell of that type has the same set of marks",
             Refusal::MarkFull => "one of the marks stands in 128 live cells already",
-            Refusal::BufferTooShort => "output buffer shorter than the list",
-            Refusal::UnknownFacet => "local facet not below the type's count",
+            Refusal::OutputShort => "output buffer shorter than the list",
+            Refusal::FacetOutside => "local facet not below the type's count",
             Refusal::NotMesh => "memory is not a mesh",
             Refusal::BadFrame => "bad frame (program only)",
         }

@@ -20,9 +20,9 @@ fn the_largest_capacities_are_used_to_their_last_number() {
     assert_eq!(memory.sibling(65_534, 0), Ok(0));
     assert_eq!(memory.star(2, 65_534, PLENTY), Ok(vec![0, 65_534]));
     let unknown_cell = memory.insert(65_535, TRI, &[3, 4, 5]);
-    assert_eq!(unknown_cell, Err(Refusal::UnknownCell));
+    assert_eq!(unknown_cell, Err(Refusal::CellOutside));
     let unknown_mark = memory.insert(1, TRI, &[3, 4, 65_535]);
-    assert_eq!(unknown_mark, Err(Refusal::UnknownMark));
+    assert_eq!(unknown_mark, Err(Refusal::MarkOutside));
 }
 
 #[test]
@@ -30,7 +30,7 @@ fn capacities_of_65536_are_refused_in_any_memory() {
     for words in [0, LARGEST_ROOM, 10_000_000] {
         for (marks, cells) in [(65_536, 0), (0, 65_536), (65_536, 65_536)] {
             let mut memory = Memory::lent(words);
-            let refusal = Refusal::CapacityTooLarge;
+            let refusal = Refusal::CapacityAbove;
             assert_eq!(memory.format(marks, cells), Err(refusal));
             assert_eq!(memory.build(marks, cells, &[]), Err((refusal, 0)));
             assert_eq!(memory, Memory::lent(words));
@@ -45,7 +45,7 @@ fn room_exact_and_one_word_short() {
     assert_eq!(room(0, 1), 48);
     assert_eq!(room(65_535, 65_535), LARGEST_ROOM);
     let mut short = Memory::lent(LARGEST_ROOM - 1);
-    let refusal = Refusal::MemoryTooShort;
+    let refusal = Refusal::MemoryShort;
     assert_eq!(short.format(65_535, 65_535), Err(refusal));
     assert_eq!(short.build(65_535, 65_535, &[]), Err((refusal, 0)));
     assert_eq!(short.format(65_534, 65_535), Ok(()));
@@ -98,7 +98,7 @@ fn one_hundred_and_twenty_eight_triangles_share_an_edge() {
     }
     let all: Vec<u32> = (0..128).map(|cell| 8 * cell).collect();
     assert_eq!(memory.cycle(0, 0, 128), Ok(all));
-    assert_eq!(memory.cycle(0, 0, 127), Err(Refusal::BufferTooShort));
+    assert_eq!(memory.cycle(0, 0, 127), Err(Refusal::OutputShort));
     assert_eq!(memory.neighbours(64, PLENTY).unwrap().len(), 127);
     // One group: its smallest border at mark 1 is the other edge of cell 0.
     assert_eq!(memory.anchors(2, 1, PLENTY), Ok(vec![1]));
@@ -140,7 +140,7 @@ fn a_list_fits_exactly_or_is_refused() {
         assert_eq!(ask(&memory, list.len()), Ok(list.clone()), "{call}");
         for room in 0..list.len() {
             let answer = ask(&memory, room);
-            assert_eq!(answer, Err(Refusal::BufferTooShort), "{call} in {room}");
+            assert_eq!(answer, Err(Refusal::OutputShort), "{call} in {room}");
         }
     }
 }

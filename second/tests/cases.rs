@@ -85,13 +85,13 @@ fn p9_a_removal_closes_the_cycle() {
 #[test]
 fn p10_the_same_set_of_marks_is_refused() {
     let mut p2 = p2();
-    assert_eq!(p2.insert(1, TRI, &[2, 0, 1]), Err(Refusal::SameMarks));
+    assert_eq!(p2.insert(1, TRI, &[2, 0, 1]), Err(Refusal::CellSame));
 }
 
 #[test]
 fn p11_a_repeated_mark_is_refused() {
     let mut p1 = p1();
-    assert_eq!(p1.insert(0, TRI, &[0, 1, 1]), Err(Refusal::RepeatedMark));
+    assert_eq!(p1.insert(0, TRI, &[0, 1, 1]), Err(Refusal::MarkTwice));
 }
 
 #[test]

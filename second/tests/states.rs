@@ -11,17 +11,17 @@ use second::{room, Memory, Mesh, Refusal};
 fn a_refused_edit_changes_nothing() {
     type Edit = fn(&mut Memory) -> Result<(), Refusal>;
     let edits: [(Edit, Refusal); 12] = [
-        (|it| it.format(65_536, 4), Refusal::CapacityTooLarge),
-        (|it| it.format(6, 300), Refusal::MemoryTooShort),
-        (|it| it.insert(200, TRI, &[3, 4, 5]), Refusal::UnknownCell),
+        (|it| it.format(65_536, 4), Refusal::CapacityAbove),
+        (|it| it.format(6, 300), Refusal::MemoryShort),
+        (|it| it.insert(200, TRI, &[3, 4, 5]), Refusal::CellOutside),
         (|it| it.insert(0, TRI, &[3, 4, 5]), Refusal::CellLive),
-        (|it| it.insert(150, 258, &[3, 4, 5]), Refusal::UnknownType),
-        (|it| it.insert(150, TRI, &[3, 4]), Refusal::WrongCount),
-        (|it| it.insert(150, TRI, &[3, 4, 200]), Refusal::UnknownMark),
-        (|it| it.insert(150, TRI, &[3, 4, 3]), Refusal::RepeatedMark),
-        (|it| it.insert(150, TRI, &[1, 2, 0]), Refusal::SameMarks),
+        (|it| it.insert(150, 258, &[3, 4, 5]), Refusal::TypeUnknown),
+        (|it| it.insert(150, TRI, &[3, 4]), Refusal::CountWrong),
+        (|it| it.insert(150, TRI, &[3, 4, 200]), Refusal::MarkOutside),
+        (|it| it.insert(150, TRI, &[3, 4, 3]), Refusal::MarkTwice),
+        (|it| it.insert(150, TRI, &[1, 2, 0]), Refusal::CellSame),
         (|it| it.insert(150, TRI, &[3, 10, 4]), Refusal::MarkFull),
-        (|it| it.remove(200), Refusal::UnknownCell),
+        (|it| it.remove(200), Refusal::CellOutside),
         (|it| it.remove(150), Refusal::CellNotLive),
     ];
     let before = with_full_mark();
@@ -39,9 +39,9 @@ fn a_build_refused_before_its_records_changes_nothing() {
     let records = words(&[(0, BAR, &[0, 1])]);
     let mut memory = before.clone();
     let refused = memory.build(65_536, 1, &records);
-    assert_eq!(refused, Err((Refusal::CapacityTooLarge, 0)));
+    assert_eq!(refused, Err((Refusal::CapacityAbove, 0)));
     let refused = memory.build(6, 5, &records);
-    assert_eq!(refused, Err((Refusal::MemoryTooShort, 0)));
+    assert_eq!(refused, Err((Refusal::MemoryShort, 0)));
     assert_eq!(memory, before);
 }
 
@@ -59,7 +59,7 @@ fn a_build_refused_at_a_record_leaves_an_empty_formatted_mesh() {
         records.extend([3, 9]);
         for mut memory in [Memory::lent(room(6, 4)), p4()] {
             let refused = memory.build(5, 4, &records);
-            assert_eq!(refused, Err((Refusal::UnknownType, place)));
+            assert_eq!(refused, Err((Refusal::TypeUnknown, place)));
             assert_eq!(memory.words, room(6, 4));
             assert_eq!(memory.mesh, Some(Mesh::formatted(5, 4)));
             assert!(memory.whole());
@@ -142,7 +142,7 @@ fn a_number_is_free_after_its_removal() {
 fn memory_is_whole_exactly_if_it_holds_a_mesh() {
     let mut memory = Memory::lent(room(6, 4));
     assert!(!memory.whole());
-    assert_eq!(memory.format(7, 4), Err(Refusal::MemoryTooShort));
+    assert_eq!(memory.format(7, 4), Err(Refusal::MemoryShort));
     assert!(!memory.whole());
     memory.format(6, 4).unwrap();
     assert!(memory.whole());

@@ -54,9 +54,9 @@ fn after_an_edit_it_gives_the_sibling_as_it_is_then() {
     memory.remove(1).unwrap();
     memory.insert(1, BAR, &[0, 1]).unwrap();
     let at_10 = Walker { half: 10 };
-    assert_eq!(at_10.step(&memory), Err(Refusal::UnknownFacet));
+    assert_eq!(at_10.step(&memory), Err(Refusal::FacetOutside));
     memory.format(6, 1).unwrap();
-    assert_eq!(at_8.step(&memory), Err(Refusal::UnknownCell));
+    assert_eq!(at_8.step(&memory), Err(Refusal::CellOutside));
     assert_eq!(at_0.step(&memory), Err(Refusal::CellNotLive));
     memory.words = 0;
     assert_eq!(at_0.step(&memory), Err(Refusal::NotMesh));

@@ -2,8 +2,8 @@
 //! and the map that memory tells.
 #![allow(dead_code)] // each run uses a part
 
-use mengkiloh::{Half, Mesh, Refusal};
-use second::map::{Cell, LiveCell, Mark};
+use mengkiloh::{Cell, Half, Mark, Mesh, Records, Refusal};
+use second::map::LiveCell;
 use second::shapes::type_with_code;
 use second::Memory;
 pub use streams::chance::Chance;
@@ -27,21 +27,52 @@ pub fn theirs<T>(answer: Result<T, second::Refusal>, numbers: impl FnOnce(T) -> 
     }
 }
 
+/// A number of any register.
+pub trait Number: Copy + From<u32> {
+    fn plain(self) -> u32;
+}
+
+impl Number for Mark {
+    fn plain(self) -> u32 {
+        self.0
+    }
+}
+
+impl Number for Cell {
+    fn plain(self) -> u32 {
+        self.0
+    }
+}
+
+impl Number for Half {
+    fn plain(self) -> u32 {
+        self.0
+    }
+}
+
+pub fn plain<T: Number>(numbers: &[T]) -> Vec<u32> {
+    numbers.iter().map(|number| number.plain()).collect()
+}
+
+pub fn marks(numbers: &[u32]) -> Vec<Mark> {
+    numbers.iter().copied().map(Mark).collect()
+}
+
 /// A list from an output between sentinels: nothing is written but its first
 /// places, and nothing at all by a refusal.
-pub fn listed(room: usize, fill: impl FnOnce(&mut [u32]) -> Result<usize, Refusal>) -> Said {
+pub fn listed<T: Number>(
+    room: usize,
+    fill: impl FnOnce(&mut [T]) -> Result<usize, Refusal>,
+) -> Said {
     const EDGE: usize = 8;
-    let mut out = vec![SENTINEL; EDGE + room + EDGE];
+    let mut out = vec![T::from(SENTINEL); EDGE + room + EDGE];
     let answer = fill(&mut out[EDGE..EDGE + room]);
     let given = answer.unwrap_or(0);
     assert!(given <= room);
+    let out = plain(&out);
     let rest = out[..EDGE].iter().chain(&out[EDGE + given..]);
     assert!(rest.into_iter().all(|&word| word == SENTINEL));
     ours(answer, |count| out[EDGE..EDGE + count].to_vec())
-}
-
-pub fn numbers(halves: Vec<Half>) -> Vec<u32> {
-    halves.into_iter().map(|half| half.0).collect()
 }
 
 /// A question to a map.
@@ -104,25 +135,18 @@ impl Question {
     pub fn to_library<W: AsRef<[u32]>>(&self, mesh: &Mesh<W>) -> Said {
         let one = |number: u32| vec![number];
         let perhaps = |half: Option<Half>| half.map(|half| half.0).into_iter().collect();
+        let yes = |yes: bool| vec![u32::from(yes)];
         match *self {
-            Question::Type(cell) => ours(mesh.type_of(cell), one),
-            Question::Marks(cell) => ours(mesh.marks_of(cell), |marks| marks.to_vec()),
-            Question::Neighbours(cell) => listed(512, |out| mesh.neighbours_into(cell, out)),
-            Question::Sibling(cell, facet) => ours(mesh.sibling(cell, facet), |half| vec![half.0]),
-            Question::Border(cell, facet) => {
-                ours(mesh.border(cell, facet), |yes| vec![u32::from(yes)])
-            }
-            Question::Cycle(cell, facet) => listed(128, |out| mesh.cycle_into(cell, facet, out)),
-            Question::Star(dimension, mark) => {
-                listed(128, |out| mesh.star_into(dimension, mark, out))
-            }
-            Question::Anchors(dimension, mark) => {
-                listed(128, |out| mesh.anchors_into(dimension, mark, out))
-            }
-            Question::FirstAnchor(dimension, mark) => {
-                ours(mesh.first_anchor(dimension, mark), perhaps)
-            }
-            Question::Lookup(ref set) => ours(mesh.lookup(set), perhaps),
+            Question::Type(c) => ours(mesh.type_of(Cell(c)), one),
+            Question::Marks(c) => ours(mesh.marks_of(Cell(c)), plain),
+            Question::Neighbours(c) => listed(512, |out| mesh.neighbours_into(Cell(c), out)),
+            Question::Sibling(c, facet) => ours(mesh.sibling(Cell(c), facet), |half| one(half.0)),
+            Question::Border(c, facet) => ours(mesh.border(Cell(c), facet), yes),
+            Question::Cycle(c, facet) => listed(128, |out| mesh.cycle_into(Cell(c), facet, out)),
+            Question::Star(d, v) => listed(128, |out| mesh.star_into(d, Mark(v), out)),
+            Question::Anchors(d, v) => listed(128, |out| mesh.anchors_into(d, Mark(v), out)),
+            Question::FirstAnchor(d, v) => ours(mesh.first_anchor(d, Mark(v)), perhaps),
+            Question::Lookup(ref set) => ours(mesh.lookup(&marks(set)), perhaps),
             Question::Cells(code) => {
                 let most = mesh.count(code).unwrap_or(0).min(70_000) as usize;
                 listed(most, |out| mesh.cells_into(code, out))
@@ -171,11 +195,11 @@ pub fn told(words: &[u32]) -> Memory {
         .filter_map(|number| {
             let record = &words[first + 16 * number as usize..][..16];
             let row = type_with_code(record[0])?;
-            let marks = record[1..=row.marks].iter().map(|&mark| Mark(mark));
+            let marks = record[1..=row.marks].iter().copied();
             Some(LiveCell {
-                number: Cell(number),
+                number: second::map::Cell(number),
                 row,
-                marks: marks.collect(),
+                marks: marks.map(second::map::Mark).collect(),
             })
         })
         .collect();
@@ -186,11 +210,11 @@ pub fn told(words: &[u32]) -> Memory {
 }
 
 /// The live cells as build records, in this order.
-pub fn records<'a>(cells: impl IntoIterator<Item = &'a LiveCell>) -> Vec<u32> {
-    let mut words = Vec::new();
+pub fn records<'a>(cells: impl IntoIterator<Item = &'a LiveCell>) -> Records {
+    let mut records = Records::new();
     for cell in cells {
-        words.extend([cell.number.0, cell.row.code]);
-        words.extend(cell.marks.iter().map(|mark| mark.0));
+        let marks: Vec<Mark> = cell.marks.iter().map(|mark| Mark(mark.0)).collect();
+        records.add(Cell(cell.number.0), cell.row.code, &marks);
     }
-    words
+    records
 }
