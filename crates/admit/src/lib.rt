@@ -1,15 +1,17 @@
 // Whether a cell may be inserted: the eight checks, in the listed order.
 //
-// What is here: `check_insert`, and the two of its checks that look at other cells. They write nothing. What is proved: on well-formed
-// memory the verdict is that of the outline's row (`insertChecks`). What a caller should know: the cost follows the star of the first mark.
+// What is here: `about_insert`, which opens the call, and the two of its checks that look at other cells. They write nothing. What is
+// proved: on well-formed memory the answer is that of the outline's row (`insertChecks`). What a caller should know: the cost follows the star of the first mark.
 ghost use mathlib.Core.Path.{_≡_};
 ghost use lib.ListN.{getD};
 ghost use Rattle.lists.specs.Lists.{any, listOf};
 ghost use Rattle.map.specs.Answers.{insertChecks};
 ghost use Rattle.map.specs.Cells.{bodyOf};
 ghost use Rattle.checks.specs.Checked.{Checked};
+ghost use Rattle.checks.specs.Opening.{Opens};
 ghost use Rattle.admit.specs.Admit.{sameIn, fullIn, Same};
 use chain::gather;
+use checks::Opening;
 use facet::marks_at;
 use lists::reaches;
 use lists::repeats;
@@ -22,8 +24,10 @@ use numbers::MOST_AROUND;
 use numbers::Mark;
 use shapes::dimension;
 use shapes::mark_count;
+use store::Opened;
 use store::code_of;
 use store::held_of;
+use store::open;
 use words::word;
 
 // The cell's record is of the type, with the same set of marks.
@@ -74,7 +78,7 @@ pub fn full_mark(w: &[u32], caps: Caps, marks: &[u32]) -> bool
 }
 
 // The checks of an insert.
-pub fn check_insert(w: &[u32], caps: Caps, c: Cell, t: u32, marks: &[u32]) -> Verdict
+fn check_insert(w: &[u32], caps: Caps, c: Cell, t: u32, marks: &[u32]) -> Verdict
     ensures { λ r. ⌜ Checked (now (w .entry)) caps (λ m. insertChecks m (c .0) (bodyOf t (now (marks .entry)))) r ⌝ }
 {
     if caps.cells <= c.0 {
@@ -102,4 +106,17 @@ pub fn check_insert(w: &[u32], caps: Caps, c: Cell, t: u32, marks: &[u32]) -> Ve
         return Verdict::Refused(Refusal::MarkFull);
     }
     Verdict::Accepted
+}
+
+// An insert: what opens it.
+pub fn about_insert(w: &[u32], c: Cell, t: u32, marks: &[u32]) -> Opening
+    ensures { λ r. ⌜ Opens (now (w .entry)) (λ m. insertChecks m (c .0) (bodyOf t (now (marks .entry)))) r ⌝ }
+{
+    let Opened::Mesh(caps) = open(w) else {
+        return Opening::Refused(Refusal::NotMesh);
+    };
+    match check_insert(w, caps, c, t, marks) {
+        Verdict::Refused(why) => Opening::Refused(why),
+        Verdict::Accepted => Opening::Open(caps),
+    }
 }

@@ -26,11 +26,14 @@ use Rattle.map.specs.declared.HalfAt.the-variants as HalfAt′
 use Rattle.map.specs.declared.Truth.the-variants as Truth
 use Rattle.map.specs.declared.Found.the-variants as Found
 use Rattle.map.specs.declared.Verdict.{Verdict}
-use Rattle.map.specs.declared.Verdict.the-variants.{Accepted, Refused}
+use Rattle.map.specs.declared.Verdict.the-variants.{Accepted}
 use Rattle.laws.proofs.Cycles.{border-self, self-border}
 use Rattle.picture.specs.State.{next}
 use Rattle.picture.specs.Picture.{Wf}
 use Rattle.checks.specs.Checked.{Checked}
+use Rattle.checks.specs.Opening.{Opens}
+use Rattle.checks.specs.declared.Opening.{Opening}
+use Rattle.checks.specs.declared.Opening.the-variants as Opening′
 use Rattle.checks.proofs.Rows.{cells-of, code-of}
 use Rattle.checks.proofs.Passed.{cell-numbered, half-numbered, star-numbered, type-numbered, cell-passed, half-passed, star-passed, type-passed}
 use Rattle.ask.specs.declared.Step.the-variants as Step
@@ -51,33 +54,47 @@ unfolding next
 next-some [] h e = absurd (omega arith)
 next-some (x ∷ xs) h e = let q : x ≡ h = omega arith in rw q
 
+-- refused by what opens the query
+module _ (w : List ℕ) (c : ℕ) where
+  pub type-refused : (opening : Opening) → Opens w (λ m. cellChecks m c) opening → (why : Refusal) → opening ≡ Opening′.Refused why
+      → Asked valueSays noValue w (λ m. typeAnswer m c) (Value.Refused why)
+  unfolding typeAnswer valueSays
+  type-refused = asked-refused valueSays w (λ m. cellChecks m c) (λ m. m .at c .code ∷ []) Value.Refused (λ why. refl)
+
+module _ (w : List ℕ) (c f : ℕ) where
+  pub sibling-refused : (opening : Opening) → Opens w (λ m. halfChecks m c f) opening → (why : Refusal) → opening ≡ Opening′.Refused why
+      → Asked halfSays noHalf w (λ m. siblingAnswer m c f) (HalfAt′.Refused why)
+  unfolding siblingAnswer halfSays
+  sibling-refused = asked-refused halfSays w (λ m. halfChecks m c f) (λ m. sibling m (halfOf c f) ∷ []) HalfAt′.Refused (λ why. refl)
+
+  pub border-refused : (opening : Opening) → Opens w (λ m. halfChecks m c f) opening → (why : Refusal) → opening ≡ Opening′.Refused why
+      → Asked truthSays noTruth w (λ m. borderAnswer m c f) (Truth.Refused why)
+  unfolding borderAnswer truthSays
+  border-refused = asked-refused truthSays w (λ m. halfChecks m c f) (λ m. cond (border m (halfOf c f)) 1 0 ∷ []) Truth.Refused (λ why. refl)
+
+module _ (w : List ℕ) (d v : ℕ) where
+  pub anchor-refused : (opening : Opening) → Opens w (λ m. starChecks m d v) opening → (why : Refusal) → opening ≡ Opening′.Refused why
+      → Asked foundSays noFound w (λ m. firstAnchorAnswer m d v) (Found.Refused why)
+  unfolding firstAnchorAnswer foundSays
+  anchor-refused = asked-refused foundSays w (λ m. starChecks m d v) (λ m. take 1 (anchors m d v)) Found.Refused (λ why. refl)
+
+module _ (w : List ℕ) (t : ℕ) where
+  pub count-refused : (opening : Opening) → Opens w (λ m. typeChecks t) opening → (why : Refusal) → opening ≡ Opening′.Refused why
+      → Asked valueSays noValue w (λ m. countAnswer m t) (Value.Refused why)
+  unfolding countAnswer valueSays
+  count-refused = asked-refused valueSays w (λ m. typeChecks t) (λ m. length (cellsOf m t) ∷ []) Value.Refused (λ why. refl)
+
 module _ (w : List ℕ) (caps : Caps) (opens : Mesh caps ≡ opened w) (verdict : Verdict) where
   module _ (c : ℕ) (checked : Checked w caps (λ m. cellChecks m c) verdict) where
-    pub type-refused : (why : Refusal) → verdict ≡ Refused why → Asked valueSays noValue w (λ m. typeAnswer m c) (Value.Refused why)
-    unfolding typeAnswer valueSays
-    type-refused why v =
-        asked-refused valueSays noValue w caps (λ m. cellChecks m c) (λ m. m .at c .code ∷ []) opens (Value.Refused why) why verdict checked v refl
-
     pub type-given : verdict ≡ Accepted → (t : ℕ) → t ≡ codeIn w caps c → Asked valueSays noValue w (λ m. typeAnswer m c) (Value.Is t)
     unfolding typeAnswer valueSays
     type-given v t word =
-        asked-given valueSays noValue w caps (λ m. cellChecks m c) (λ m. m .at c .code ∷ []) opens (Value.Is t) verdict checked v (λ m. cell-numbered m c)
+        asked-given valueSays w (λ m. cellChecks m c) (λ m. m .at c .code ∷ []) noValue caps opens (Value.Is t) verdict checked v (λ m. cell-numbered m c)
         (λ m e wf.
         let below : c < caps .cells = omega (arith, cell-passed w caps verdict v m e wf c checked .0, cells-of caps m e) in
         ap (λ (n : ℕ). given (n ∷ [])) (word ∙ code-of caps m e w wf c below))
 
   module _ (c f : ℕ) (checked : Checked w caps (λ m. halfChecks m c f) verdict) where
-    pub sibling-refused : (why : Refusal) → verdict ≡ Refused why → Asked halfSays noHalf w (λ m. siblingAnswer m c f) (HalfAt′.Refused why)
-    unfolding siblingAnswer halfSays
-    sibling-refused why v =
-        asked-refused halfSays noHalf w caps (λ m. halfChecks m c f) (λ m. sibling m (halfOf c f) ∷ []) opens (HalfAt′.Refused why) why verdict checked v refl
-
-    pub border-refused : (why : Refusal) → verdict ≡ Refused why → Asked truthSays noTruth w (λ m. borderAnswer m c f) (Truth.Refused why)
-    unfolding borderAnswer truthSays
-    border-refused why v =
-        asked-refused truthSays noTruth w caps (λ m. halfChecks m c f) (λ m. cond (border m (halfOf c f)) 1 0 ∷ []) opens (Truth.Refused why) why verdict checked v
-        refl
-
     module _ (v : verdict ≡ Accepted) (y : ℕ) (half : y ≡ halfOf (c % 65536) (f % 8)) (h : Half) (word : h .0 ≡ read w caps (InCell (y / 8) (Sib (y % 8)))) where
       -- the half-facet that was asked for
       place : (m : Map) (e : m .caps ≡ caps) (wf : Wf w m) → y ≡ halfOf c f
@@ -93,14 +110,14 @@ module _ (w : List ℕ) (caps : Caps) (opens : Mesh caps ≡ opened w) (verdict 
       pub sibling-given : Asked halfSays noHalf w (λ m. siblingAnswer m c f) (HalfAt′.At h)
       unfolding siblingAnswer halfSays
       sibling-given =
-          asked-given halfSays noHalf w caps (λ m. halfChecks m c f) (λ m. sibling m (halfOf c f) ∷ []) opens (HalfAt′.At h) verdict checked v
+          asked-given halfSays w (λ m. halfChecks m c f) (λ m. sibling m (halfOf c f) ∷ []) noHalf caps opens (HalfAt′.At h) verdict checked v
           (λ m. half-numbered m c f) (λ m e wf. ap (λ (n : ℕ). given (n ∷ [])) (led m e wf))
 
       -- its own sibling: a border
       pub border-yes : h .0 ≡ y → Asked truthSays noTruth w (λ m. borderAnswer m c f) Truth.Yes
       unfolding borderAnswer truthSays
       border-yes same =
-          asked-given truthSays noTruth w caps (λ m. halfChecks m c f) (λ m. cond (border m (halfOf c f)) 1 0 ∷ []) opens Truth.Yes verdict checked v
+          asked-given truthSays w (λ m. halfChecks m c f) (λ m. cond (border m (halfOf c f)) 1 0 ∷ []) noTruth caps opens Truth.Yes verdict checked v
           (λ m. half-numbered m c f)
           (λ m e wf.
           let p = half-passed w caps verdict v m e wf c f checked in
@@ -110,7 +127,7 @@ module _ (w : List ℕ) (caps : Caps) (opens : Mesh caps ≡ opened w) (verdict 
       pub border-no : (h .0 ≡ y → ⊥) → Asked truthSays noTruth w (λ m. borderAnswer m c f) Truth.No
       unfolding borderAnswer truthSays
       border-no other =
-          asked-given truthSays noTruth w caps (λ m. halfChecks m c f) (λ m. cond (border m (halfOf c f)) 1 0 ∷ []) opens Truth.No verdict checked v
+          asked-given truthSays w (λ m. halfChecks m c f) (λ m. cond (border m (halfOf c f)) 1 0 ∷ []) noTruth caps opens Truth.No verdict checked v
           (λ m. half-numbered m c f)
           (λ m e wf.
           let p = half-passed w caps verdict v m e wf c f checked in
@@ -119,11 +136,6 @@ module _ (w : List ℕ) (caps : Caps) (opens : Mesh caps ≡ opened w) (verdict 
           rw none)
 
   module _ (d v : ℕ) (checked : Checked w caps (λ m. starChecks m d v) verdict) where
-    pub anchor-refused : (why : Refusal) → verdict ≡ Refused why → Asked foundSays noFound w (λ m. firstAnchorAnswer m d v) (Found.Refused why)
-    unfolding firstAnchorAnswer foundSays
-    anchor-refused why q =
-        asked-refused foundSays noFound w caps (λ m. starChecks m d v) (λ m. take 1 (anchors m d v)) opens (Found.Refused why) why verdict checked q refl
-
     module _ (ok : verdict ≡ Accepted) (x : ℕ) (word : x ≡ read w caps (InMark v (Anchor d))) where
       first-word : (m : Map) (e : m .caps ≡ caps) (wf : Wf w m) → x ≡ next (anchors m d v)
       first-word m e wf =
@@ -133,26 +145,21 @@ module _ (w : List ℕ) (caps : Caps) (opens : Mesh caps ≡ opened w) (verdict 
       pub anchor-none : x ≡ 0 → Asked foundSays noFound w (λ m. firstAnchorAnswer m d v) Found.Nothing
       unfolding firstAnchorAnswer foundSays
       anchor-none z =
-          asked-given foundSays noFound w caps (λ m. starChecks m d v) (λ m. take 1 (anchors m d v)) opens Found.Nothing verdict checked ok
+          asked-given foundSays w (λ m. starChecks m d v) (λ m. take 1 (anchors m d v)) noFound caps opens Found.Nothing verdict checked ok
           (λ m. star-numbered m d v) (λ m e wf. ap given (sym (next-none (anchors m d v) (sym (first-word m e wf) ∙ z))))
 
       pub anchor-found : (x ≡ 0 → ⊥) → (h : Half) → h .0 ≡ x - 1 → Asked foundSays noFound w (λ m. firstAnchorAnswer m d v) (Found.At h)
       unfolding firstAnchorAnswer foundSays
       anchor-found some h q =
-          asked-given foundSays noFound w caps (λ m. starChecks m d v) (λ m. take 1 (anchors m d v)) opens (Found.At h) verdict checked ok
+          asked-given foundSays w (λ m. starChecks m d v) (λ m. take 1 (anchors m d v)) noFound caps opens (Found.At h) verdict checked ok
           (λ m. star-numbered m d v)
           (λ m e wf. ap given (sym (next-some (anchors m d v) (h .0) (sym (first-word m e wf) ∙ omega arith))))
 
   module _ (t : ℕ) (checked : Checked w caps (λ m. typeChecks t) verdict) where
-    pub count-refused : (why : Refusal) → verdict ≡ Refused why → Asked valueSays noValue w (λ m. countAnswer m t) (Value.Refused why)
-    unfolding countAnswer valueSays
-    count-refused why q =
-        asked-refused valueSays noValue w caps (λ m. typeChecks t) (λ m. length (cellsOf m t) ∷ []) opens (Value.Refused why) why verdict checked q refl
-
     pub count-given : verdict ≡ Accepted → (x : ℕ) → x ≡ read w caps (InHead (Count t)) → Asked valueSays noValue w (λ m. countAnswer m t) (Value.Is x)
     unfolding countAnswer valueSays
     count-given ok x word =
-        asked-given valueSays noValue w caps (λ m. typeChecks t) (λ m. length (cellsOf m t) ∷ []) opens (Value.Is x) verdict checked ok
+        asked-given valueSays w (λ m. typeChecks t) (λ m. length (cellsOf m t) ∷ []) noValue caps opens (Value.Is x) verdict checked ok
         (λ m. type-numbered t)
         (λ m e wf. ap (λ (n : ℕ). given (n ∷ [])) (word ∙ count-is w caps m e wf t (type-passed w caps verdict ok m e wf t checked)))
 

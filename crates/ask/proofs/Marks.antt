@@ -13,7 +13,7 @@ use Rattle.words.specs.Words.{BeginsAt, partOf, Part}
 use Rattle.words.proofs.Fits.{part-fits}
 use Rattle.shapes.specs.Shapes.{shape}
 use Rattle.numbers.specs.declared.Caps.{Caps}
-use Rattle.store.specs.declared.Opened.the-variants.{Mesh, Nothing}
+use Rattle.store.specs.declared.Opened.the-variants.{Mesh}
 use Rattle.store.specs.Slots.{codeIn, marksAt}
 use Rattle.store.specs.Open.{isMesh, opened}
 use Rattle.map.specs.Cells.{Map, live, dimensionAt}
@@ -21,17 +21,20 @@ use Rattle.map.specs.Answers.{Answer, answer, cellChecks, typeAnswer, marksPart
 use Rattle.map.specs.Says.{numberOf, given, refused, verdictSays}
 use Rattle.map.specs.declared.Refusal.{Refusal}
 use Rattle.map.specs.declared.Verdict.{Verdict}
-use Rattle.map.specs.declared.Verdict.the-variants.{Accepted, Refused}
+use Rattle.map.specs.declared.Verdict.the-variants.{Accepted}
 use Rattle.picture.specs.Picture.{Wf}
 use Rattle.shapes.proofs.Types.{type-marks}
 use Rattle.facet.specs.Facet.{MarksAt, marksIn}
 use Rattle.facet.proofs.Copy.{marks-words}
 use Rattle.checks.specs.Checked.{Checked}
+use Rattle.checks.specs.Opening.{Opens}
+use Rattle.checks.specs.declared.Opening.{Opening}
+use Rattle.checks.specs.declared.Opening.the-variants as Opening′
 use Rattle.checks.proofs.Rows.{cells-of, code-of, marks-in}
 use Rattle.map.proofs.Refusals.{number-some}
 use Rattle.checks.proofs.Values.{refused-values, given-values}
 use Rattle.checks.proofs.Passed.{cell-numbered, cell-passed}
-use Rattle.checks.proofs.Opens.{nothing-opened, mesh-opened, wf-mesh, wf-caps}
+use Rattle.checks.proofs.Opens.{mesh-opened, wf-caps}
 use Rattle.ask.specs.Asked.{Handed, HandedMarks}
 
 -- a refusal's number is not 0
@@ -51,30 +54,24 @@ part-there w at n = go (leb (at + n) (length w)) refl
 part-zero : (w : List ℕ) → partOf w 0 0 ≡ []
 part-zero w = part-fits w 0 0 (omega arith)
 
-module _ (w : List ℕ) (part : Map → List ℕ) where
-  handed-none : Nothing ≡ opened w → (r : List ℕ) → r ≡ partOf w 0 0 → Handed w part r
-  handed-none e r q = record { refused = λ _. q ∙ part-zero w; answers = λ m wf. absurd (clash (wf-mesh w m wf) (nothing-opened w e)) }
+-- refused: nothing is handed back
+handed-refused : (w : List ℕ) (c : ℕ) (opening : Opening) → Opens w (λ m. cellChecks m c) opening → (why : Refusal) → opening ≡ Opening′.Refused why
+    → (r : List ℕ) → r ≡ partOf w 0 0 → Handed w (λ m. marksPart m c) r
+unfolding marksPart typeAnswer refused
+handed-refused w c opening o why q r none = record {
+  refused = λ _. none ∙ part-zero w;
+  answers = λ m wf.
+      let a : refused why ≡ answer (cellChecks m c) (m .at c .code ∷ []) =
+      refused-values (cellChecks m c) why (m .at c .code ∷ []) (o .fails why q m wf) in
+      (none ∙ part-zero w) ∙ rw (← a, some-number why);
+}
 
 module _ (w : List ℕ) (caps : Caps) (opens : Mesh caps ≡ opened w) (c : ℕ) (verdict : Verdict) (checked : Checked w caps (λ m. cellChecks m c) verdict) where
-  mesh : isMesh w ≡ false → ⊥
-  mesh none = clash (mesh-opened w caps opens .0) none
-
-  handed-refused : (why : Refusal) → verdict ≡ Refused why → (r : List ℕ) → r ≡ partOf w 0 0 → Handed w (λ m. marksPart m c) r
-  unfolding marksPart typeAnswer verdictSays refused
-  handed-refused why v r q = record {
-    refused = λ none. absurd (mesh none);
-    answers = λ m wf.
-        let e = wf-caps w m wf caps opens in
-        let a : refused why ≡ answer (cellChecks m c) (m .at c .code ∷ []) =
-        refused-values (cellChecks m c) why (m .at c .code ∷ []) (ap verdictSays (sym v) ∙ checked .says m e wf) in
-        (q ∙ part-zero w) ∙ rw (← a, some-number why);
-  }
-
   module _ (v : verdict ≡ Accepted) where
     handed-marks : (r : List ℕ) → r ≡ marksIn w caps c → Handed w (λ m. marksPart m c) r
     unfolding marksPart typeAnswer verdictSays given marksIn
     handed-marks r q = record {
-      refused = λ none. absurd (mesh none);
+      refused = λ none. absurd (clash (mesh-opened w caps opens .0) none);
       answers = λ m wf.
           let e = wf-caps w m wf caps opens in
           let a : given (m .at c .code ∷ []) ≡ answer (cellChecks m c) (m .at c .code ∷ []) =
@@ -103,24 +100,18 @@ marks-begin w r caps m e wf c below alive q = rw (e, ← size) (simp (le-leb _ _
 
 -- the same of references: the part that is handed back lies where the marks are stored
 module _ (w r : RefT (List ℕ)) (c : ℕ) where
-  pub marks-none : Nothing ≡ opened (now w) → Part w 0 0 r → HandedMarks w c r
-  marks-none e q = record {
-    marks = handed-none (now w) _ e (now r) (q .words);
-    begins = λ m wf. absurd (clash (wf-mesh (now w) m wf) (nothing-opened (now w) e));
+  pub marks-refused : (opening : Opening) → Opens (now w) (λ m. cellChecks m c) opening → (why : Refusal) → opening ≡ Opening′.Refused why → Part w 0 0 r
+      → HandedMarks w c r
+  unfolding typeAnswer refused
+  marks-refused opening o why q none = record {
+    marks = handed-refused (now w) c opening o why q (now r) (none .words);
+    begins = λ m wf accepted.
+        let a : refused why ≡ answer (cellChecks m c) (m .at c .code ∷ []) =
+        refused-values (cellChecks m c) why (m .at c .code ∷ []) (o .fails why q m wf) in
+        absurd (omega (arith, number-some why, ap (λ (k : Answer). k .refusal) a, accepted));
   }
 
   module _ (caps : Caps) (opens : Mesh caps ≡ opened (now w)) (verdict : Verdict) (checked : Checked (now w) caps (λ m. cellChecks m c) verdict) where
-    pub marks-refused : (why : Refusal) → verdict ≡ Refused why → Part w 0 0 r → HandedMarks w c r
-    unfolding typeAnswer verdictSays refused
-    marks-refused why v q = record {
-      marks = handed-refused (now w) caps opens c verdict checked why v (now r) (q .words);
-      begins = λ m wf accepted.
-          let e = wf-caps (now w) m wf caps opens in
-          let a : refused why ≡ answer (cellChecks m c) (m .at c .code ∷ []) =
-          refused-values (cellChecks m c) why (m .at c .code ∷ []) (ap verdictSays (sym v) ∙ checked .says m e wf) in
-          absurd (omega (arith, number-some why, ap (λ (k : Answer). k .refusal) a, accepted));
-    }
-
     pub marks-given : verdict ≡ Accepted → MarksAt w caps c r → HandedMarks w c r
     marks-given v q = record {
       marks = handed-marks (now w) caps opens c verdict checked v (now r) (marks-words w caps c r q);

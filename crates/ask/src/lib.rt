@@ -8,28 +8,26 @@ ghost use Rattle.map.specs.Says.{valueSays, halfSays, truthSays, foundSays};
 ghost use Rattle.ask.specs.Asked.{Asked, HandedMarks};
 ghost use Rattle.ask.specs.Steps.{stepSays};
 ghost use Rattle.ask.specs.Refusals.{noValue, noHalf, noTruth, noFound, noStep};
-use checks::check_cell;
-use checks::check_half;
-use checks::check_star;
-use checks::check_type;
+use checks::Opening;
+use checks::about_cell;
+use checks::about_half;
+use checks::about_star;
+use checks::about_type;
 use facet::marks_at;
 use map::Found;
 use map::HalfAt;
 use map::Refusal;
 use map::Truth;
 use map::Value;
-use map::Verdict;
 use numbers::Cell;
 use numbers::Half;
 use numbers::Mark;
 use numbers::cell_of;
 use numbers::facet_of;
 use numbers::half_of;
-use store::Opened;
 use store::anchor_of;
 use store::code_of;
 use store::count_of;
-use store::open;
 use store::sibling_of;
 use words::part;
 
@@ -37,12 +35,9 @@ use words::part;
 pub fn type_of(w: &[u32], c: Cell) -> Value
     ensures { λ r. ⌜ Asked valueSays noValue (now (w .entry)) (λ m. typeAnswer m (c .0)) r ⌝ }
 {
-    let Opened::Mesh(caps) = open(w) else {
-        return Value::Refused(Refusal::NotMesh);
-    };
-    match check_cell(w, caps, c) {
-        Verdict::Refused(why) => Value::Refused(why),
-        Verdict::Accepted => Value::Is(code_of(w, caps, c)),
+    match about_cell(w, c) {
+        Opening::Refused(why) => Value::Refused(why),
+        Opening::Open(caps) => Value::Is(code_of(w, caps, c)),
     }
 }
 
@@ -50,25 +45,19 @@ pub fn type_of(w: &[u32], c: Cell) -> Value
 pub fn marks_of(w: &[u32], c: Cell) -> &[u32]
     ensures { λ r. ⌜ HandedMarks (w .entry) (c .0) r ⌝ }
 {
-    let Opened::Mesh(caps) = open(w) else {
-        return part(w, 0, 0);
-    };
-    if let Verdict::Refused(_) = check_cell(w, caps, c) {
-        return part(w, 0, 0);
+    match about_cell(w, c) {
+        Opening::Refused(_) => part(w, 0, 0),
+        Opening::Open(caps) => marks_at(w, caps, c),
     }
-    marks_at(w, caps, c)
 }
 
 // The sibling of a half-facet.
 pub fn sibling(w: &[u32], c: Cell, f: u32) -> HalfAt
     ensures { λ r. ⌜ Asked halfSays noHalf (now (w .entry)) (λ m. siblingAnswer m (c .0) f) r ⌝ }
 {
-    let Opened::Mesh(caps) = open(w) else {
-        return HalfAt::Refused(Refusal::NotMesh);
-    };
-    match check_half(w, caps, c, f) {
-        Verdict::Refused(why) => HalfAt::Refused(why),
-        Verdict::Accepted => HalfAt::At(sibling_of(w, caps, half_of(c, f))),
+    match about_half(w, c, f) {
+        Opening::Refused(why) => HalfAt::Refused(why),
+        Opening::Open(caps) => HalfAt::At(sibling_of(w, caps, half_of(c, f))),
     }
 }
 
@@ -76,12 +65,9 @@ pub fn sibling(w: &[u32], c: Cell, f: u32) -> HalfAt
 pub fn border(w: &[u32], c: Cell, f: u32) -> Truth
     ensures { λ r. ⌜ Asked truthSays noTruth (now (w .entry)) (λ m. borderAnswer m (c .0) f) r ⌝ }
 {
-    let Opened::Mesh(caps) = open(w) else {
-        return Truth::Refused(Refusal::NotMesh);
-    };
-    match check_half(w, caps, c, f) {
-        Verdict::Refused(why) => Truth::Refused(why),
-        Verdict::Accepted => {
+    match about_half(w, c, f) {
+        Opening::Refused(why) => Truth::Refused(why),
+        Opening::Open(caps) => {
             let h = half_of(c, f);
             if sibling_of(w, caps, h).0 == h.0 {
                 Truth::Yes
@@ -96,12 +82,10 @@ pub fn border(w: &[u32], c: Cell, f: u32) -> Truth
 pub fn first_anchor(w: &[u32], d: u32, v: Mark) -> Found
     ensures { λ r. ⌜ Asked foundSays noFound (now (w .entry)) (λ m. firstAnchorAnswer m d (v .0)) r ⌝ }
 {
-    let Opened::Mesh(caps) = open(w) else {
-        return Found::Refused(Refusal::NotMesh);
+    let caps = match about_star(w, d, v) {
+        Opening::Refused(why) => return Found::Refused(why),
+        Opening::Open(caps) => caps,
     };
-    if let Verdict::Refused(why) = check_star(w, caps, d, v) {
-        return Found::Refused(why);
-    }
     let x = anchor_of(w, caps, d, v);
     if x == 0 {
         return Found::Nothing;
@@ -113,12 +97,9 @@ pub fn first_anchor(w: &[u32], d: u32, v: Mark) -> Found
 pub fn count_of_type(w: &[u32], t: u32) -> Value
     ensures { λ r. ⌜ Asked valueSays noValue (now (w .entry)) (λ m. countAnswer m t) r ⌝ }
 {
-    let Opened::Mesh(caps) = open(w) else {
-        return Value::Refused(Refusal::NotMesh);
-    };
-    match check_type(w, caps, t) {
-        Verdict::Refused(why) => Value::Refused(why),
-        Verdict::Accepted => Value::Is(count_of(w, caps, t)),
+    match about_type(w, t) {
+        Opening::Refused(why) => Value::Refused(why),
+        Opening::Open(caps) => Value::Is(count_of(w, caps, t)),
     }
 }
 

@@ -3,3 +3,4 @@ pub mod Rows
 pub mod Values
 pub mod Opens
 pub mod Passed
+pub mod Begins

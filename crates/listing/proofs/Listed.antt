@@ -1,4 +1,4 @@
--- A listing query: no mesh; refused by its checks; the list given out.
+-- A listing query: refused by what opens it, or the list given out.
 use mathlib.Core.Path.{_≡_, refl, sym, ap, _∙_}
 use mathlib.Core.Bool.{true, false}
 use mathlib.Core.List.{List, [], _∷_, _++_}
@@ -16,7 +16,7 @@ use Rattle.lists.proofs.Bools.{clash}
 use Rattle.lists.proofs.Fill.{filled-take, length-listOf, listOf-take}
 use Rattle.words.specs.Words.{Only}
 use Rattle.numbers.specs.declared.Caps.{Caps}
-use Rattle.store.specs.declared.Opened.the-variants.{Mesh, Nothing}
+use Rattle.store.specs.declared.Opened.the-variants.{Mesh}
 use Rattle.store.specs.Open.{opened}
 use Rattle.map.specs.Cells.{Map}
 use Rattle.map.specs.Answers.{Check, Answer, _when_, answer, listAnswer}
@@ -26,7 +26,7 @@ use Rattle.map.specs.declared.Refusal.the-variants.{NotMesh, OutputShort}
 use Rattle.map.specs.declared.Value.{Value}
 use Rattle.map.specs.declared.Value.the-variants as Val
 use Rattle.map.specs.declared.Verdict.{Verdict}
-use Rattle.map.specs.declared.Verdict.the-variants.{Accepted, Refused}
+use Rattle.map.specs.declared.Verdict.the-variants.{Accepted}
 use Rattle.picture.specs.Picture.{Wf}
 use Rattle.checks.specs.Checked.{Checked}
 use Rattle.map.proofs.Refusals.{number-some}
@@ -40,7 +40,10 @@ use Rattle.picture.proofs.Settles.{wf-pic, wf-settled, wf-map}
 use Rattle.star.specs.Listed.{Gives, AtMark}
 use Rattle.checks.proofs.Rows.{marks-of}
 use Rattle.checks.proofs.Passed.{star-passed}
-use Rattle.checks.proofs.Opens.{nothing-opened, mesh-opened, wf-mesh, wf-caps}
+use Rattle.checks.specs.Opening.{Opens}
+use Rattle.checks.specs.declared.Opening.{Opening}
+use Rattle.checks.specs.declared.Opening.the-variants as Opening′
+use Rattle.checks.proofs.Opens.{mesh-opened, wf-caps}
 use Rattle.listing.specs.Listing.{listed, Listing, Given}
 
 -- a refused answer lists nothing
@@ -65,27 +68,20 @@ first-only l o o′ n a b e = record {
 }
 
 module _ (w : List ℕ) (checks : Map → List Check) (list : Map → List ℕ) (o : List ℕ) where
-  pub listing-none : Nothing ≡ opened w → Listing w checks list o (Val.Refused NotMesh) o
-  listing-none e = record {
-    refused = λ _. refl;
-    kept = λ why q. refl;
-    first = λ n q. absurd (not-given n NotMesh q);
-    answers = λ m wf. absurd (clash (wf-mesh w m wf) (nothing-opened w e));
+  -- refused: no mesh, or by the checks
+  pub listing-refused : (opening : Opening) → Opens w checks opening → (why : Refusal) → opening ≡ Opening′.Refused why
+      → Listing w checks list o (Val.Refused why) o
+  unfolding listAnswer valueSays
+  listing-refused opening k why q = record {
+    refused = λ none. ap Val.Refused (k .no-mesh why q none);
+    kept = λ other q. refl;
+    first = λ n q. absurd (not-given n why q);
+    answers = λ m wf.
+        let a = refused-more (checks m) ((12 when ltb (length o) (length (list m))) ∷ []) why (length (list m) ∷ []) (k .fails why q m wf) in
+        (a, listed-refused (answer (checks m ++ ((12 when ltb (length o) (length (list m))) ∷ [])) (length (list m) ∷ [])) why (list m) o a);
   }
 
   module _ (caps : Caps) (opens : Mesh caps ≡ opened w) (verdict : Verdict) (checked : Checked w caps checks verdict) where
-    pub listing-refused : (why : Refusal) → verdict ≡ Refused why → Listing w checks list o (Val.Refused why) o
-    unfolding listAnswer verdictSays valueSays
-    listing-refused why v = record {
-      refused = λ none. absurd (clash (mesh-opened w caps opens .0) none);
-      kept = λ other q. refl;
-      first = λ n q. absurd (not-given n why q);
-      answers = λ m wf.
-          let a = refused-more (checks m) ((12 when ltb (length o) (length (list m))) ∷ []) why (length (list m) ∷ [])
-          (ap verdictSays (sym v) ∙ checked .says m (wf-caps w m wf caps opens) wf) in
-          (a, listed-refused (answer (checks m ++ ((12 when ltb (length o) (length (list m))) ∷ [])) (length (list m) ∷ [])) why (list m) o a);
-    }
-
     module _ (v : verdict ≡ Accepted) (numbered : (m : Map) → Numbered (checks m)) where
       behind : (m : Map) → Wf w m
           → answer ((12 when ltb (length o) (length (list m))) ∷ []) (length (list m) ∷ []) ≡ listAnswer (checks m) (list m) (length o)

@@ -1,4 +1,4 @@
--- An edit: no mesh; refused by its checks; made.
+-- An edit: refused by what opens it, or made.
 use mathlib.Core.Path.{_≡_, refl, sym, ap, _∙_, subst}
 use mathlib.Core.Bool.{Bool, true, false, cond}
 use mathlib.Core.List.{List, []}
@@ -12,7 +12,7 @@ use Rattle.numbers.specs.Room.{room}
 use Rattle.words.specs.Words.{Only}
 use Rattle.words.proofs.Frame.{only-none}
 use Rattle.numbers.specs.declared.Caps.{Caps}
-use Rattle.store.specs.declared.Opened.the-variants.{Mesh, Nothing}
+use Rattle.store.specs.declared.Opened.the-variants.{Mesh}
 use Rattle.store.specs.Open.{roomIn, capsIn, opened}
 use Rattle.map.specs.Cells.{Map}
 use Rattle.map.specs.Answers.{Check, Answer, answer}
@@ -27,7 +27,10 @@ use Rattle.picture.specs.Picture.{Wf}
 use Rattle.edit.specs.Edit.{Made}
 use Rattle.checks.specs.Checked.{Checked}
 use Rattle.map.proofs.Refusals.{number-some}
-use Rattle.checks.proofs.Opens.{nothing-opened, mesh-opened, wf-mesh, wf-caps}
+use Rattle.checks.specs.Opening.{Opens}
+use Rattle.checks.specs.declared.Opening.{Opening}
+use Rattle.checks.specs.declared.Opening.the-variants as Opening′
+use Rattle.checks.proofs.Opens.{mesh-opened, wf-caps}
 use Rattle.mesh.specs.Edited.{Edited}
 
 -- a refused edit leaves the map
@@ -36,27 +39,21 @@ unfolding edited refused
 edited-kept m e why q = rw (← q, ne-eqb (numberOf why) 0 (λ z. omega (arith, number-some why)))
 
 module _ (w : List ℕ) (e : Edit) where
-  pub edited-none : Nothing ≡ opened w → Edited w e (Refused NotMesh) w
-  edited-none q = record {
-    refused = λ _. refl;
-    kept = λ why z. refl;
+  -- refused: no mesh, or by its checks
+  pub edited-refused : (checks : Map → List Check) → ((m : Map) → editAnswer m e ≡ answer (checks m) []) → (opening : Opening) → Opens w checks opening
+      → (why : Refusal) → opening ≡ Opening′.Refused why → Edited w e (Refused why) w
+  unfolding verdictSays
+  edited-refused checks says opening o why q = record {
+    refused = λ none. ap Refused (o .no-mesh why q none);
+    kept = λ other z. refl;
     inside = only-none;
-    answers = λ m wf. absurd (clash (wf-mesh w m wf) (nothing-opened w q));
+    answers = λ m wf.
+        let a : refused why ≡ editAnswer m e = o .fails why q m wf ∙ sym (says m) in
+        (a, subst (λ (k : Map). Wf w k) (sym (edited-kept m e why a)) wf);
   }
 
   module _ (caps : Caps) (opens : Mesh caps ≡ opened w) (checks : Map → List Check) (says : (m : Map) → editAnswer m e ≡ answer (checks m) []) (verdict : Verdict)
       (checked : Checked w caps checks verdict) where
-    pub edited-refused : (why : Refusal) → verdict ≡ Refused why → Edited w e (Refused why) w
-    unfolding verdictSays
-    edited-refused why v = record {
-      refused = λ none. absurd (clash (mesh-opened w caps opens .0) none);
-      kept = λ other z. refl;
-      inside = only-none;
-      answers = λ m wf.
-          let q : refused why ≡ editAnswer m e = ap verdictSays (sym v) ∙ (checked .says m (wf-caps w m wf caps opens) wf ∙ sym (says m)) in
-          (q, subst (λ (k : Map). Wf w k) (sym (edited-kept m e why q)) wf);
-    }
-
     pub edited-made : verdict ≡ Accepted → (w′ : List ℕ) → Made caps w w′ e → Edited w e Accepted w′
     unfolding verdictSays given capsIn
     edited-made v w′ made = record {

@@ -12,13 +12,13 @@ ghost use Rattle.map.specs.History.{Insert, Remove};
 ghost use Rattle.lists.specs.Filled.{Filled};
 ghost use Rattle.facet.specs.Facet.{marksIn};
 ghost use Rattle.mesh.specs.Edited.{Edited, TakenOut};
-use admit::check_insert;
-use checks::check_cell;
+use admit::about_insert;
+use checks::Opening;
+use checks::about_cell;
 use edit::clear_siblings;
 use edit::link_all;
 use edit::unlink_all;
 use facet::marks_at;
-use map::Refusal;
 use map::Verdict;
 use numbers::Caps;
 use numbers::Cell;
@@ -29,10 +29,8 @@ use settle::settle;
 use shapes::MOST_MARKS;
 use shapes::facet_table;
 use shapes::mark_count;
-use store::Opened;
 use store::code_of;
 use store::count_of;
-use store::open;
 use words::part;
 use words::put;
 use words::word;
@@ -63,14 +61,13 @@ fn in_far(marks: &[u32]) -> bool
 pub fn insert(w: &mut [u32], c: Cell, t: u32, marks: &[u32]) -> Verdict
     ensures { λ r. ⌜ Edited (now (w .entry)) (Insert (c .0) (bodyOf t (now (marks .entry)))) r (now (w .exit)) ⌝ }
 {
-    let Opened::Mesh(caps) = open(w) else {
-        return Verdict::Refused(Refusal::NotMesh);
-    };
-    if let Verdict::Refused(why) = check_insert(w, caps, c, t, marks) {
-        return Verdict::Refused(why);
+    match about_insert(w, c, t, marks) {
+        Opening::Refused(why) => Verdict::Refused(why),
+        Opening::Open(caps) => {
+            make_insert(w, caps, c, t, marks);
+            Verdict::Accepted
+        }
     }
-    make_insert(w, caps, c, t, marks);
-    Verdict::Accepted
 }
 
 // A cell of this type on these marks, taken out of the mesh: its chains, its record, what is around it, the count.
@@ -115,12 +112,11 @@ fn make_remove(w: &mut [u32], caps: Caps, c: Cell)
 pub fn remove(w: &mut [u32], c: Cell) -> Verdict
     ensures { λ r. ⌜ Edited (now (w .entry)) (Remove (c .0)) r (now (w .exit)) ⌝ }
 {
-    let Opened::Mesh(caps) = open(w) else {
-        return Verdict::Refused(Refusal::NotMesh);
-    };
-    if let Verdict::Refused(why) = check_cell(w, caps, c) {
-        return Verdict::Refused(why);
+    match about_cell(w, c) {
+        Opening::Refused(why) => Verdict::Refused(why),
+        Opening::Open(caps) => {
+            make_remove(w, caps, c);
+            Verdict::Accepted
+        }
     }
-    make_remove(w, caps, c);
-    Verdict::Accepted
 }

@@ -1,41 +1,20 @@
 -- `ask::count_of_type` meets its contract.
-use mathlib.Core.Path.{sym, _∙_}
-use Rattle.ask.proofs.Asks.{asked-none}
 use Rattle.ask.proofs.Calls.{count-refused, count-given}
+use mathlib.Core.Path.{refl}
 use borrow.Author.Needs.{needs}
 use Rattle.ask.proofs.count_of_type.Statement.{statement}
 use Rattle.ask.proofs.count_of_type.Tie as tie
 
 returns : tie.Need-returns
-returns c = asked-none _ _ _ _ (sym (c .enum-told .given .1) ∙ c .before .before .«open» .ensures)
+returns c = count-refused _ _ _ (c .before .before .before .about-type .ensures) _ (c .before .why .given .1)
 
 returns-2 : tie.Need-returns-2
 returns-2 c =
-    let at-why = c .before in
-    let at-check-type = at-why .before .before in
-    let at-caps = at-check-type .before .before in
-    let at-start = at-caps .before .before in
-    count-refused _ _ (sym (at-caps .caps .given .1) ∙ at-start .«open» .ensures) _ _ (at-check-type .check-type .ensures) _ (at-why .why .given .1)
-
-returns-3 : tie.Need-returns-3
-returns-3 c =
-    let at-enum-told2 = c .before in
-    let at-check-type = at-enum-told2 .before .before in
-    let at-caps = at-check-type .before .before in
-    let at-start = at-caps .before .before in
-    count-given _ _ (sym (at-caps .caps .given .1) ∙ at-start .«open» .ensures) _ _ (at-check-type .check-type .ensures) (at-enum-told2 .enum-told2 .given .1) _ (c .count-of .ensures)
+    let at-caps = c .before .before in
+    let opens = at-caps .before .before .about-type .ensures .opens _ (at-caps .caps .given .1) in
+    count-given _ _ (opens .0) _ _ (opens .1) refl _ (c .count-of .ensures)
 
 pub count-of-type-spec : {M : Type 1} → statement M
 count-of-type-spec =
     tie.close
-    (tie.spec
-    (λ c κs. search needs)
-    (λ c. search needs)
-    (λ c. search needs)
-    returns
-    (λ c κs. search needs)
-    (λ c. search needs)
-    (λ c. search needs)
-    (λ c κs. search needs)
-    returns-2
-    returns-3)
+    (tie.spec (λ c κs. search needs) (λ c. search needs) (λ c. search needs) (λ c κs. search needs) returns returns-2)

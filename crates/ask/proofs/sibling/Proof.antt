@@ -1,43 +1,20 @@
 -- `ask::sibling` meets its contract.
-use mathlib.Core.Path.{sym, _∙_}
-use Rattle.ask.proofs.Asks.{asked-none}
 use Rattle.ask.proofs.Calls.{sibling-refused, sibling-given}
+use mathlib.Core.Path.{refl}
 use borrow.Author.Needs.{needs}
 use Rattle.ask.proofs.sibling.Statement.{statement}
 use Rattle.ask.proofs.sibling.Tie as tie
 
 returns : tie.Need-returns
-returns c = asked-none _ _ _ _ (sym (c .enum-told .given .1) ∙ c .before .before .«open» .ensures)
+returns c = sibling-refused _ _ _ _ (c .before .before .before .about-half .ensures) _ (c .before .why .given .1)
 
 returns-2 : tie.Need-returns-2
 returns-2 c =
-    let at-why = c .before in
-    let at-check-half = at-why .before .before in
-    let at-caps = at-check-half .before .before in
-    let at-start = at-caps .before .before in
-    sibling-refused _ _ (sym (at-caps .caps .given .1) ∙ at-start .«open» .ensures) _ _ _ (at-check-half .check-half .ensures) _ (at-why .why .given .1)
-
-returns-3 : tie.Need-returns-3
-returns-3 c =
-    let at-half-of = c .before in
-    let at-enum-told2 = at-half-of .before in
-    let at-check-half = at-enum-told2 .before .before in
-    let at-caps = at-check-half .before .before in
-    let at-start = at-caps .before .before in
-    sibling-given _ _ (sym (at-caps .caps .given .1) ∙ at-start .«open» .ensures) _ _ _ (at-check-half .check-half .ensures) (at-enum-told2 .enum-told2 .given .1) _ (at-half-of .half-of .ensures) _ (c .sibling-of .ensures)
+    let at-caps = c .before .before .before in
+    let opens = at-caps .before .before .about-half .ensures .opens _ (at-caps .caps .given .1) in
+    sibling-given _ _ (opens .0) _ _ _ (opens .1) refl _ (c .before .half-of .ensures) _ (c .sibling-of .ensures)
 
 pub sibling-spec : {M : Type 1} → statement M
 sibling-spec =
     tie.close
-    (tie.spec
-    (λ c κs. search needs)
-    (λ c. search needs)
-    (λ c. search needs)
-    returns
-    (λ c κs. search needs)
-    (λ c. search needs)
-    (λ c. search needs)
-    (λ c κs. search needs)
-    (λ c κs. search needs)
-    returns-2
-    returns-3)
+    (tie.spec (λ c κs. search needs) (λ c. search needs) (λ c. search needs) (λ c κs. search needs) (λ c κs. search needs) returns returns-2)

@@ -1,45 +1,24 @@
 -- `mesh::insert` meets its contract.
-use mathlib.Core.Path.{sym, _∙_}
-use Rattle.mesh.proofs.Answering.{edited-none, edited-refused, edited-made}
+use mathlib.Core.Path.{refl}
+use Rattle.mesh.proofs.Answering.{edited-refused, edited-made}
 use Rattle.mesh.proofs.Inserting.{insert-says}
 use borrow.Author.Needs.{needs}
 use Rattle.mesh.proofs.insert.Statement.{statement}
 use Rattle.mesh.proofs.insert.Tie as tie
 
 returns : tie.Need-returns
-returns c = edited-none _ _ (sym (c .enum-told .given .1) ∙ c .before .before .«open» .ensures)
+returns c =
+    let at-why = c .before in
+    edited-refused _ _ _ (λ m. insert-says m _ _) _ (at-why .before .before .about-insert .ensures) _ (at-why .why .given .1)
 
 returns-2 : tie.Need-returns-2
 returns-2 c =
-    let at-why = c .before in
-    let at-check-insert = at-why .before .before in
-    let at-caps = at-check-insert .before .before .before in
-    let at-start = at-caps .before .before in
-    edited-refused _ _ _ (sym (at-caps .caps .given .1) ∙ at-start .«open» .ensures) _ (λ m. insert-says m _ _) _ (at-check-insert .check-insert .ensures) _ (at-why .why .given .1)
-
-returns-3 : tie.Need-returns-3
-returns-3 c =
-    let at-make-insert = c .before .before in
-    let at-enum-told2 = at-make-insert .before .before in
-    let at-check-insert = at-enum-told2 .before .before in
-    let at-caps = at-check-insert .before .before .before in
-    let at-start = at-caps .before .before in
-    edited-made _ _ _ (sym (at-caps .caps .given .1) ∙ at-start .«open» .ensures) _ (λ m. insert-says m _ _) _ (at-check-insert .check-insert .ensures) (at-enum-told2 .enum-told2 .given .1) _ (at-make-insert .make-insert .ensures)
+    let at-make = c .before .before in
+    let at-caps = at-make .before .before .before in
+    let opens = at-caps .before .before .about-insert .ensures .opens _ (at-caps .caps .given .1) in
+    edited-made _ _ _ (opens .0) _ (λ m. insert-says m _ _) _ (opens .1) refl _ (at-make .make-insert .ensures)
 
 pub insert-spec : {M : Type 1} → statement M
 insert-spec =
     tie.close
-    (tie.spec
-    (λ c κs. search needs)
-    (λ c. search needs)
-    (λ c. search needs)
-    (λ c. search needs)
-    returns
-    (λ c κs. search needs)
-    (λ c. search needs)
-    (λ c. search needs)
-    returns-2
-    (λ c. search needs)
-    (λ c κs. search needs)
-    (λ c. search needs)
-    returns-3)
+    (tie.spec (λ c κs. search needs) (λ c. search needs) (λ c. search needs) (λ c κs. search needs) (λ c. search needs) returns (λ c. search needs) returns-2)
