@@ -7,7 +7,7 @@ use native.Mathlib.Omega.{arith}
 use lib.ListN.{length, take}
 use Rattle.lists.proofs.Bools.{not-true-false}
 use Rattle.numbers.specs.declared.Half.{Half}
-use Rattle.numbers.specs.Half.{halfOf}
+use Rattle.numbers.specs.Half.{cut, halfOf}
 use Rattle.numbers.specs.declared.Caps.{Caps}
 use Rattle.store.specs.declared.Opened.the-variants.{Mesh}
 use Rattle.store.specs.Fields.{Count, Anchor, Sib}
@@ -95,7 +95,7 @@ module _ (w : List ℕ) (caps : Caps) (opens : Mesh caps ≡ opened w) (verdict 
         ap (λ (n : ℕ). given (n ∷ [])) (word ∙ code-of caps m e w wf c below))
 
   module _ (c f : ℕ) (checked : Checked w caps (λ m. halfChecks m c f) verdict) where
-    module _ (v : verdict ≡ Accepted) (y : ℕ) (half : y ≡ halfOf (c % 65536) (f % 8)) (h : Half) (word : h .0 ≡ read w caps (InCell (y / 8) (Sib (y % 8)))) where
+    module _ (v : verdict ≡ Accepted) (y : ℕ) (half : y ≡ halfOf (cut c) (f % 8)) (h : Half) (word : h .0 ≡ read w caps (InCell (y / 8) (Sib (y % 8)))) where
       -- the half-facet that was asked for
       place : (m : Map) (e : m .caps ≡ caps) (wf : Wf w m) → y ≡ halfOf c f
       place m e wf =

@@ -4,7 +4,7 @@ use Prim.Native.Nat.{ℕ, _/_, _%_, _<_, _≤_}
 use native.Mathlib.Omega.{arith}
 use lib.ListN.{length, length-map}
 use mathlib.Core.List.{List}
-use Rattle.numbers.specs.Half.{halfOf}
+use Rattle.numbers.specs.Half.{cut, halfOf}
 use Rattle.numbers.proofs.Inverse.{half-cell, half-facet as facet-part, half-uncut}
 use Rattle.shapes.proofs.Facts.{facts}
 use Rattle.shapes.proofs.Types.{type-code}
@@ -22,6 +22,7 @@ use Rattle.picture.specs.Picture.{Wf}
 use Rattle.picture.proofs.Record.{count-read, anchor-read, sib-read}
 use Rattle.picture.proofs.Settles.{wf-pic}
 use Rattle.checks.proofs.Rows.{marks-of, cells-of}
+use Rattle.shapes.specs.Sizes.{mostFacets}
 
 module _ (w : List ℕ) (caps : Caps) (m : Map) (e : m .caps ≡ caps) (wf : Wf w m) where
   module _ (c f : ℕ) (hc : c < m .caps .cells) (hf : f < facetCount (m .at c .code)) where
@@ -29,7 +30,7 @@ module _ (w : List ℕ) (caps : Caps) (m : Map) (e : m .caps ≡ caps) (wf : Wf 
     unfolding facetCount facetsAt
     facet-below = rw length-map hf
 
-    facet-few : f < 6
+    facet-few : f < mostFacets
     unfolding facetCount
     facet-few = omega (arith, facts (m .at c .code) .facets)
 
@@ -39,7 +40,7 @@ module _ (w : List ℕ) (caps : Caps) (m : Map) (e : m .caps ≡ caps) (wf : Wf 
     half-is = half-live m (wf .sound) (halfOf c f) (half-facet m c f facet-below .1)
 
     -- nothing of it is cut off
-    pub uncut-is : halfOf (c % 65536) (f % 8) ≡ halfOf c f
+    pub uncut-is : halfOf (cut c) (f % 8) ≡ halfOf c f
     uncut-is = half-uncut c f (omega (arith, wf .picture .cells)) (omega (arith, facet-few))
 
     -- the word of a half-facet is its sibling

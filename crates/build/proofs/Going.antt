@@ -11,7 +11,7 @@ use Rattle.lists.specs.Lists.{select}
 use Rattle.lists.proofs.Select.{select-size}
 use Rattle.lists.proofs.Counts.{select-none, select-more}
 use Rattle.numbers.specs.Room.{room}
-use Rattle.numbers.specs.Sizes.{capacities}
+use Rattle.numbers.specs.Sizes.{mostCapacity, capacities}
 use Rattle.numbers.specs.declared.Caps.{Caps}
 use Rattle.words.specs.Words.{Only}
 use Rattle.words.proofs.Frame.{only-none, only-then}
@@ -50,7 +50,7 @@ live-empty : (caps : Caps) → liveCount (empty caps) ≡ 0
 unfolding liveCount empty mapOf bodyIn noCell live
 live-empty caps = rw (select-none _ _ (λ k. refl))
 
-live-most : (w : List ℕ) (m : Map) → Wf w m → liveCount m ≤ 65535
+live-most : (w : List ℕ) (m : Map) → Wf w m → liveCount m ≤ mostCapacity
 unfolding liveCount
 live-most w m wf = omega (arith, select-size (live m) (m .caps .cells), wf .picture .cells)
 
@@ -156,7 +156,7 @@ module _ (caps : Caps) (records : List ℕ) where
 
   module _ (w₁ : List ℕ) (at place : ℕ) (w : List ℕ) (g : Going w₁ caps records at place w) where
     -- the places are few
-    pub going-few : place ≤ 65535
+    pub going-few : place ≤ mostCapacity
     going-few = omega (arith, g .count, live-most w (g .map) (g .wf))
 
     -- a record more

@@ -15,7 +15,8 @@ use Rattle.numbers.specs.declared.Caps.{Caps}
 use Rattle.picture.specs.State.{State}
 use Rattle.picture.specs.Picture.{chainOf, corner}
 use Rattle.picture.specs.Changes.{withLink}
-use Rattle.chain.specs.Chain.{Linked, MaySplice, MayUnsplice}
+use Rattle.chain.specs.Chain.{Linked, MayLink}
+use Rattle.numbers.specs.Sizes.{mostAround}
 
 module _ (s : State) (v c : ℕ) (on : Bool) where
   -- the cell itself, another mark, another cell
@@ -56,7 +57,7 @@ module _ (caps : Caps) (s : State) (v c : ℕ) (h : c < caps .cells) where
 
 module _ (caps : Caps) (s : State) (v k c : ℕ) (on : Bool) (l : Linked caps s) (e : corner s c k ≡ v) (h : k < length (s .at c .marks)) where
   -- the chains stay linked where the chain of v does not grow too long
-  linked-with : length (chainOf caps (withLink s v c on) v) ≤ 128 → Linked caps (withLink s v c on)
+  linked-with : length (chainOf caps (withLink s v c on) v) ≤ mostAround → Linked caps (withLink s v c on)
   unfolding withLink corner
   linked-with few = record {
     held = λ u d t. held u d t (ℕ-discrete u v) (ℕ-discrete d c);
@@ -70,16 +71,14 @@ module _ (caps : Caps) (s : State) (v k c : ℕ) (on : Bool) (l : Linked caps s)
       held u d t (no f) b = l .held u d (sym (with-mark s v c on u d f) ∙ t)
       held u d t (yes a) (no f) = l .held u d (sym (with-cell s v c on u d f) ∙ t)
 
-      short : (u : ℕ) → Dec (u ≡ v) → length (chainOf caps (withLink s v c on) u) ≤ 128
+      short : (u : ℕ) → Dec (u ≡ v) → length (chainOf caps (withLink s v c on) u) ≤ mostAround
       short u (yes a) = rw a few
       short u (no f) = rw (chain-with s v c on caps u f) (l .few u)
 
 module _ (caps : Caps) (v k c : ℕ) (s : State) where
-  pub linked-splice : MaySplice caps v k c s → Linked caps (withLink s v c true)
-  linked-splice m =
-      linked-with caps s v k c true (m .linked) (m .corner) (m .place) (omega (arith, m .few, chain-more caps s v c (m .cell) (m .free)))
-
-  pub linked-unsplice : MayUnsplice caps v k c s → Linked caps (withLink s v c false)
-  linked-unsplice m =
-      linked-with caps s v k c false (m .linked) (m .corner) (m .place)
-      (omega (arith, m .linked .few v, chain-less caps s v c (m .cell) (m .there)))
+  pub linked-link : (on : Bool) → MayLink caps v k c on s → Linked caps (withLink s v c on)
+  linked-link on m = linked-with caps s v k c on (m .linked) (m .corner) (m .place) (short on m)
+    where
+      short : (on : Bool) → MayLink caps v k c on s → length (chainOf caps (withLink s v c on) v) ≤ mostAround
+      short true m = omega (arith, m .few refl, chain-more caps s v c (m .cell) (m .was))
+      short false m = omega (arith, m .linked .few v, chain-less caps s v c (m .cell) (m .was))

@@ -56,7 +56,7 @@ module _ (caps : Caps) (s : State) (l : Linked caps s) (v : ℕ) where
   pub link-says : (c i : ℕ) → s .chain v c ≡ true → suc i ≡ linkTo (s .at) v (suc c) → (i / 8 ≡ c) × (i % 8 ≡ place v (s .at c .marks))
   unfolding linkTo
   link-says c i t e =
-      let small : place v (s .at c .marks) < 8 = omega (arith, corner-there c t .0, l .corners c) in
+      let small : place v (s .at c .marks) < mostMarks = omega (arith, corner-there c t .0, l .corners c) in
       (omega (arith, e), omega (arith, e))
 
 -- the words of a mark

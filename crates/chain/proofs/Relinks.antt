@@ -12,7 +12,7 @@ use Rattle.lists.specs.Lists.{place}
 use Rattle.words.specs.Words.{Only}
 use Rattle.words.proofs.Frame.{only-none, only-then}
 use Rattle.numbers.specs.declared.Caps.{Caps}
-use Rattle.numbers.specs.Half.{halfOf}
+use Rattle.numbers.specs.Half.{cut, halfOf}
 use Rattle.store.specs.Layout.{room}
 use Rattle.store.specs.Fields.{First, Held, Link}
 use Rattle.store.specs.Slots.{Slot, InMark, InCell, address, markOpen, cellOpen, read, written}
@@ -23,12 +23,13 @@ use Rattle.picture.specs.Changes.{withLink}
 use Rattle.picture.specs.Step.{Step}
 use Rattle.picture.proofs.Shows.{shows-start, shows-put, shows-all}
 use Rattle.chain.specs.declared.Spot.{Spot}
-use Rattle.chain.specs.Chain.{Linked, MaySplice, MayUnsplice}
+use Rattle.chain.specs.Chain.{Linked, MayLink}
 use Rattle.chain.specs.Walk.{setLead, lastBelow, Found}
 use Rattle.chain.proofs.Nexts.{None, none-then, first-from, from-later, last-low, last-gap}
 use Rattle.chain.proofs.Places.{set-first, set-behind, corner-is, link-says, link-here, count-word, link-at}
-use Rattle.chain.proofs.Links.{with-here, with-cell, chain-more, chain-less, linked-splice, linked-unsplice}
+use Rattle.chain.proofs.Links.{with-here, with-cell, chain-more, chain-less, linked-link}
 use Rattle.chain.proofs.Differ.{Lead, head, behind, link-kept, lead-within, lead-word, lead-before, lead-with, frame}
+use Rattle.shapes.specs.Sizes.{mostMarks}
 
 -- the word that leads on stays in the room, whatever the numbers
 only-lead : (w : List ℕ) (caps : Caps) (before v x : ℕ) → Only (λ i. i < room (caps .marks) (caps .cells)) w (setLead w caps before v x)
@@ -59,7 +60,7 @@ lead-set w caps s l v m lo x y (behind d j e h t k q z) =
     rw (z, e)
     (set-behind w caps (suc i) v y i refl
     ∙ (ap₂ (λ (a b : ℕ). written w caps (InCell a (Link b)) y) (says .0) (says .1 ∙ at)
-    ∙ cell-inside w caps y d (Link j) h (lt-ltb j 8 (omega (arith, l .corners d)))))
+    ∙ cell-inside w caps y d (Link j) h (lt-ltb j mostMarks (omega (arith, l .corners d)))))
 
 module _
     (w : List ℕ) (caps : Caps) (s : State) (p : Pic w caps s) (l : Linked caps s) (v k c : ℕ) (on : Bool) (m : v < caps .marks)
@@ -71,7 +72,7 @@ module _
     unfolding wordOf markWord cellWord markOpen cellOpen
     relinked-pic x y n l′ ex ey en = let r = lead-before caps s l v m c (omega arith) in go (r .0) (r .1)
       where
-        small : k < 8
+        small : k < mostMarks
         small = omega (arith, l .corners c)
 
         go : (a : Slot) → Lead caps s v (lastBelow (s .chain v) c) a
@@ -81,7 +82,7 @@ module _
             lead-word caps (withLink s v c on) l′ v m _ a (lead-with caps s l v m c on _ a (last-low (s .chain v) c) r) ∙ ex in
             rw (
               lead-set w caps s l v m (lastBelow (s .chain v) c) a x r,
-              cell-inside (set w (address (caps .marks) (caps .cells) a) x) caps y c (Link k) h (lt-ltb k 8 small),
+              cell-inside (set w (address (caps .marks) (caps .cells) a) x) caps y c (Link k) h (lt-ltb k mostMarks small),
               mark-inside (set (set w (address (caps .marks) (caps .cells) a) x) (address (caps .marks) (caps .cells) (InCell c (Link k))) y) caps n v Held m refl,
             )
             (shows-all
@@ -141,8 +142,8 @@ step-never caps w ok f g = record { inside = only-none; state = λ s p m. absurd
 -- the three writes of the code, one after the other
 module _ (w w₁ w₂ w₃ : List ℕ) (caps : Caps) (v k c n : ℕ) (r : Spot) (f : Found w caps v c r) (en : n ≡ read w caps (InMark v Held)) where
   -- c goes in: what led past it leads to it, and its own link is what led past it
-  pub splice-step : (h : ℕ) → h ≡ halfOf (c % 65536) (k % 8) → w₁ ≡ setLead w caps (r .before) v (h + 1) → w₂ ≡ written w₁ caps (InCell c (Link k)) (r .after)
-      → w₃ ≡ written w₂ caps (InMark v Held) (n + 1) → Step caps w w₃ (MaySplice caps v k c) (λ s. withLink s v c true)
+  pub splice-step : (h : ℕ) → h ≡ halfOf (cut c) (k % 8) → w₁ ≡ setLead w caps (r .before) v (h + 1) → w₂ ≡ written w₁ caps (InCell c (Link k)) (r .after)
+      → w₃ ≡ written w₂ caps (InMark v Held) (n + 1) → Step caps w w₃ (MayLink caps v k c true) (λ s. withLink s v c true)
   unfolding halfOf linkTo
   splice-step h eh e₁ e₂ e₃ = rw (e₃, e₂, e₁) (record {
     inside = relinked-inside w caps v k c (r .before) (h + 1) (r .after) (n + 1);
@@ -151,23 +152,23 @@ module _ (w w₁ w₂ w₃ : List ℕ) (caps : Caps) (v k c n : ℕ) (r : Spot) 
         let here : place v (s .at c .marks) ≡ k = corner-is caps s (m .linked) v c k (m .place) (m .corner) in
         rw (spot .0)
         (relinked-pic w caps s p (m .linked) v k c true (m .mark) (m .cell) (m .place) (m .corner) (h + 1) (r .after) (n + 1)
-        (linked-splice caps v k c s m)
+        (linked-link caps v k c s true m)
         (lead-in caps s v c (m .cell) ∙ omega (arith, here, eh, m .place, m .linked .corners c, m .cell, p .cells))
-        (own-in caps s v c k (m .place) (m .corner) (m .free) ∙ sym (spot .1))
-        (omega (arith, chain-more caps s v c (m .cell) (m .free), count-word w caps s p v (m .mark))));
+        (own-in caps s v c k (m .place) (m .corner) (m .was) ∙ sym (spot .1))
+        (omega (arith, chain-more caps s v c (m .cell) (m .was), count-word w caps s p v (m .mark))));
   })
 
   -- c goes out: what led to it leads past it, and its own link is 0
   pub unsplice-step : (x : ℕ) → x ≡ read w caps (InCell c (Link k)) → w₁ ≡ setLead w caps (r .before) v x → w₂ ≡ written w₁ caps (InCell c (Link k)) 0
-      → w₃ ≡ written w₂ caps (InMark v Held) (n - 1) → Step caps w w₃ (MayUnsplice caps v k c) (λ s. withLink s v c false)
+      → w₃ ≡ written w₂ caps (InMark v Held) (n - 1) → Step caps w w₃ (MayLink caps v k c false) (λ s. withLink s v c false)
   unsplice-step x ex e₁ e₂ e₃ = rw (e₃, e₂, e₁) (record {
     inside = relinked-inside w caps v k c (r .before) x 0 (n - 1);
     state = λ s p m.
         let spot = f .spot s p (m .linked) (m .mark) (omega (arith, m .cell)) in
         rw (spot .0)
         (relinked-pic w caps s p (m .linked) v k c false (m .mark) (m .cell) (m .place) (m .corner) x 0 (n - 1)
-        (linked-unsplice caps v k c s m)
-        (lead-out caps s v c ∙ sym (ex ∙ link-at w caps s p (m .linked) v c k (m .cell) (m .there) (m .place) (m .corner)))
+        (linked-link caps v k c s false m)
+        (lead-out caps s v c ∙ sym (ex ∙ link-at w caps s p (m .linked) v c k (m .cell) (m .was) (m .place) (m .corner)))
         (own-out caps s v c k (m .corner))
-        (omega (arith, chain-less caps s v c (m .cell) (m .there), count-word w caps s p v (m .mark))));
+        (omega (arith, chain-less caps s v c (m .cell) (m .was), count-word w caps s p v (m .mark))));
   })

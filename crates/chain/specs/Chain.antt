@@ -1,6 +1,6 @@
 -- The chain of a mark: its cells in ascending order, each linked to the next.
 use mathlib.Core.Path.{_≡_}
-use mathlib.Core.Bool.{true, false}
+use mathlib.Core.Bool.{Bool, true, false, not}
 use mathlib.Core.List.{List, _++_}
 use Prim.Native.Nat.{ℕ, _<_, _≤_}
 use lib.ListN.{length, drop}
@@ -25,21 +25,12 @@ pub record Gathered (w : List ℕ) (caps : Caps) (v : ℕ) (o : List ℕ) (r : �
   pub list : (s : State) → Pic w caps s → Linked caps s → v < caps .marks
       → (r ≡ length (chainOf caps s v)) × (r ≤ length o → o′ ≡ chainOf caps s v ++ drop r o)
 
--- the cell c, whose corner k is the mark v, may go into the chain of v
-pub record MaySplice (caps : Caps) (v k c : ℕ) (s : State) : Type 0 where
+-- the cell c, whose corner k is the mark v, may go into the chain of v, or out of it: it is not there yet, or it is
+pub record MayLink (caps : Caps) (v k c : ℕ) (on : Bool) (s : State) : Type 0 where
   pub linked : Linked caps s
   pub mark : v < caps .marks
   pub cell : c < caps .cells
   pub place : k < length (s .at c .marks)
   pub corner : corner s c k ≡ v
-  pub free : s .chain v c ≡ false
-  pub few : length (chainOf caps s v) < mostAround
-
--- or out of it
-pub record MayUnsplice (caps : Caps) (v k c : ℕ) (s : State) : Type 0 where
-  pub linked : Linked caps s
-  pub mark : v < caps .marks
-  pub cell : c < caps .cells
-  pub place : k < length (s .at c .marks)
-  pub corner : corner s c k ≡ v
-  pub there : s .chain v c ≡ true
+  pub was : s .chain v c ≡ not on
+  pub few : on ≡ true → length (chainOf caps s v) < mostAround

@@ -1,15 +1,15 @@
 // The chain of a mark: the cells that stand in it, ascending, each linked to the next at its corner that is the mark.
 //
-// What is here: `gather` lists a chain, `find` gives the spot of a cell in one, `splice` puts a cell in, `unsplice` takes one out. All are
-// total: any memory, any numbers. What is proved: on the picture of a state whose chains are linked each answer is the definition's
+// What is here: `gather` lists a chain, `find` gives the spot of a cell in one, `relink` puts a cell in or takes it out. All are total:
+// any memory, any numbers. What is proved: on the picture of a state whose chains are linked each answer is the definition's
 // (specs/Chain.antt, specs/Walk.antt), and a writing function leaves the picture of the state with that one cell in the chain, or out of it
 // (`withLink`). What a caller should know: a link says the cell and its corner, so that a step reads one word; at most 128 links are
-// followed; on a state that does not allow the step (`MaySplice`, `MayUnsplice`) it is only sure that no word outside the room changes.
+// followed; on a state that does not allow the step (`MayLink`) it is only sure that no word outside the room changes.
 ghost use mathlib.Core.Path.{_≡_};
 ghost use mathlib.Core.Bool.{true, false};
 ghost use Rattle.picture.specs.Changes.{withLink};
 ghost use Rattle.picture.specs.Step.{Step};
-ghost use Rattle.chain.specs.Chain.{Gathered, MaySplice, MayUnsplice};
+ghost use Rattle.chain.specs.Chain.{Gathered, MayLink};
 ghost use Rattle.chain.specs.Walk.{setLead, Found};
 use numbers::Caps;
 use numbers::Cell;
@@ -83,8 +83,8 @@ fn put_lead(w: &mut [u32], caps: Caps, before: u32, v: Mark, x: u32)
 }
 
 // The cell c, whose corner k is the mark v, put into the chain of v.
-pub fn splice(w: &mut [u32], caps: Caps, v: Mark, k: u32, c: Cell)
-    ensures { λ _. ⌜ Step caps (now (w .entry)) (now (w .exit)) (MaySplice caps (v .0) k (c .0)) (λ s. withLink s (v .0) (c .0) true) ⌝ }
+fn splice(w: &mut [u32], caps: Caps, v: Mark, k: u32, c: Cell)
+    ensures { λ _. ⌜ Step caps (now (w .entry)) (now (w .exit)) (MayLink caps (v .0) k (c .0) true) (λ s. withLink s (v .0) (c .0) true) ⌝ }
 {
     let count = held_of(w, caps, v);
     if MOST_AROUND <= count {
@@ -98,8 +98,8 @@ pub fn splice(w: &mut [u32], caps: Caps, v: Mark, k: u32, c: Cell)
 }
 
 // The cell c, whose corner k is the mark v, taken out of the chain of v.
-pub fn unsplice(w: &mut [u32], caps: Caps, v: Mark, k: u32, c: Cell)
-    ensures { λ _. ⌜ Step caps (now (w .entry)) (now (w .exit)) (MayUnsplice caps (v .0) k (c .0)) (λ s. withLink s (v .0) (c .0) false) ⌝ }
+fn unsplice(w: &mut [u32], caps: Caps, v: Mark, k: u32, c: Cell)
+    ensures { λ _. ⌜ Step caps (now (w .entry)) (now (w .exit)) (MayLink caps (v .0) k (c .0) false) (λ s. withLink s (v .0) (c .0) false) ⌝ }
 {
     let count = held_of(w, caps, v);
     if count == 0 {
@@ -110,4 +110,15 @@ pub fn unsplice(w: &mut [u32], caps: Caps, v: Mark, k: u32, c: Cell)
     put_lead(w, caps, spot.before, v, after);
     write_link(w, caps, c, k, 0);
     write_held(w, caps, v, count - 1);
+}
+
+// The cell c, whose corner k is the mark v, put into the chain of v, or taken out of it.
+pub fn relink(w: &mut [u32], caps: Caps, v: Mark, k: u32, c: Cell, on: bool)
+    ensures { λ _. ⌜ Step caps (now (w .entry)) (now (w .exit)) (MayLink caps (v .0) k (c .0) on) (λ s. withLink s (v .0) (c .0) on) ⌝ }
+{
+    if on {
+        splice(w, caps, v, k, c);
+        return;
+    }
+    unsplice(w, caps, v, k, c);
 }

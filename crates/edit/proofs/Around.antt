@@ -12,13 +12,11 @@ use Rattle.lists.specs.Lists.{has, any, sameSet}
 use Rattle.lists.proofs.Bools.{clash, not-true-false}
 use Rattle.lists.proofs.Members.{at-any}
 use Rattle.lists.proofs.Sets.{same-refl}
-use Rattle.shapes.specs.Sizes.{mostCode}
+use Rattle.shapes.specs.Sizes.{mostFacets, mostCode}
 use Rattle.shapes.proofs.Facts.{facts}
 use Rattle.shapes.specs.Shapes.{shape, shapes, noShape}
 use Rattle.shapes.specs.Table.{table}
 use Rattle.numbers.specs.declared.Caps.{Caps}
-use Rattle.store.specs.Fields.{Magic, MarkCap, CellCap, Count, HeadRest, First, Held, Anchor, MarkRest, Code, Near, Sib, Link, Far, CellRest}
-use Rattle.store.specs.Slots.{Slot, InHead, InMark, InCell, Within}
 use Rattle.map.specs.Cells.{Body, Map, holds, facetsAt, cellsOf}
 use Rattle.map.specs.Siblings.{isHalf, marksOf, sibling}
 use Rattle.map.specs.Sound.{Sound}
@@ -26,41 +24,13 @@ use Rattle.laws.proofs.Local.{Apart, Free, OneMore, half-other, sibling-other, 
 use Rattle.laws.proofs.Counted.{more-type-other}
 use Rattle.laws.proofs.Halves.{none-facets}
 use Rattle.picture.specs.State.{State, next, mapWith, stateOf}
-use Rattle.picture.specs.Picture.{chainOf, ahead, link, corner, linkWord, headWord, markWord, cellWord, wordOf, Pic, Wf}
+use Rattle.picture.specs.Picture.{Pic, Wf}
 use Rattle.picture.specs.Changes.{withCount}
-use Rattle.picture.proofs.Put.{pic-same}
-use Rattle.picture.proofs.Alike.{state-same}
+use Rattle.picture.proofs.Alike.{retold, pic-retold, state-same}
 use Rattle.laws.proofs.Facets.{facets-count}
 use Rattle.map.specs.Cells.{setsOf}
 use Rattle.settle.specs.Settle.{among, MaySettle, settled}
 use Rattle.edit.specs.Edit.{withLinks}
-
--- a state with other counts
-abbrev pub withCounts : State → (ℕ → ℕ) → State
-withCounts s count = record { at = s .at; chain = s .chain; sib = s .sib; anc = s .anc; count = count }
-
-module _ (caps : Caps) (s : State) (count : ℕ → ℕ) (same : (t : ℕ) → 1 ≤ t → t ≤ mostCode → s .count t ≡ count t) where
-  counts-words : (z : Slot) → Within (caps .marks) (caps .cells) z → wordOf caps s z ≡ wordOf caps (withCounts s count) z
-  unfolding wordOf headWord markWord cellWord link ahead chainOf corner linkWord
-  counts-words (InHead Magic) h = refl
-  counts-words (InHead MarkCap) h = refl
-  counts-words (InHead CellCap) h = refl
-  counts-words (InHead (Count t)) h = same t (h .0) (h .1)
-  counts-words (InHead (HeadRest k)) h = refl
-  counts-words (InMark v First) h = refl
-  counts-words (InMark v Held) h = refl
-  counts-words (InMark v (Anchor d)) h = refl
-  counts-words (InMark v (MarkRest k)) h = refl
-  counts-words (InCell c Code) h = refl
-  counts-words (InCell c (Near k)) h = refl
-  counts-words (InCell c (Sib f)) h = refl
-  counts-words (InCell c (Link k)) h = refl
-  counts-words (InCell c (Far k)) h = refl
-  counts-words (InCell c (CellRest p)) h = refl
-
-  -- counts are stored for the codes of the table
-  pub pic-counts : (w : List ℕ) → Pic w caps s → Pic w caps (withCounts s count)
-  pic-counts w p = pic-same w caps s (withCounts s count) counts-words p
 
 -- from m to m′ a cell of type t on these marks, under the number c, comes or goes
 pub record Turn (m m′ : Map) (c t : ℕ) (marks : List ℕ) : Type 0 where
@@ -138,7 +108,7 @@ module _ (m : Map) (h : ℕ) where
   unfolding stateOf isHalf
   no-sib e = rw (e, le-ltb (h % 8) 0 (omega arith))
 
-  pub past-sib : 6 ≤ h % 8 → stateOf m .sib h ≡ 0
+  pub past-sib : mostFacets ≤ h % 8 → stateOf m .sib h ≡ 0
   unfolding stateOf isHalf
   past-sib l =
       rw (le-ltb (h % 8) (length (facetsAt m (h / 8))) (omega (arith, facets-count m (h / 8), facts (m .at (h / 8) .code) .facets)))
@@ -191,7 +161,7 @@ module _ (caps : Caps) (m : Map) (c t : ℕ) (marks : List ℕ) (s : State) (r :
 
   pub around-wf : (w : List ℕ) → Pic w caps (withCount (settled caps s) t (length (cellsOf (mapWith caps s) t))) → Wf w (mapWith caps s)
   unfolding withCount settled stateOf mapWith
-  around-wf w p = record { sound = r .sound; picture = subst (Pic w caps) fields (pic-counts caps counted (stateOf m′ .count) agree w p) }
+  around-wf w p = record { sound = r .sound; picture = subst (Pic w caps) fields counts }
     where
       m′ : Map
       m′ = mapWith caps s
@@ -206,6 +176,11 @@ module _ (caps : Caps) (m : Map) (c t : ℕ) (marks : List ℕ) (s : State) (r :
           go (yes q) = rw (← q, eq-eqb t t refl)
           go (no n) = rw (ne-eqb t u n) (a .counts u ∙ ap length (sym (r .others u lo (λ z. n (sym z)))))
 
-      fields : withCounts counted (stateOf m′ .count) ≡ stateOf m′
+      -- counts are stored for the codes of the table
+      counts : Pic w caps (retold counted (counted .sib) (counted .anc) (stateOf m′ .count))
+      counts =
+          pic-retold caps counted (counted .sib) (counted .anc) (stateOf m′ .count) (λ d f h. refl) (λ d v h. refl) (λ u h. agree u (h .0) (h .1)) w p
+
+      fields : retold counted (counted .sib) (counted .anc) (stateOf m′ .count) ≡ stateOf m′
       fields =
-          state-same (withCounts counted (stateOf m′ .count)) (stateOf m′) refl (fun-ext (λ v. fun-ext (λ k. a .chains v k))) refl refl refl
+          state-same (retold counted (counted .sib) (counted .anc) (stateOf m′ .count)) (stateOf m′) refl (fun-ext (λ v. fun-ext (λ k. a .chains v k))) refl refl refl

@@ -1,9 +1,10 @@
 -- Mark by mark a cell goes into the chains of its marks, or out of them.
 use mathlib.Core.Path.{_≡_, refl, sym, ap, _∙_, subst, fun-ext}
-use mathlib.Core.Bool.{Bool, true, false, cond, _&&_, _||_}
+use mathlib.Core.Bool.{Bool, true, false, cond, not, _&&_, _||_}
 use mathlib.Core.List.{List, [], _∷_}
 use Prim.Native.Nat.{ℕ, suc, _+_, _<_, _≤_}
 use native.Mathlib.Numerals.{add-one}
+use native.Mathlib.Decide.{decLt}
 use native.Mathlib.Omega.{arith}
 use borrow.Author.Tests.{eq-eqb, ne-eqb, eqb-true}
 use lib.Dec.{eqb}
@@ -16,14 +17,16 @@ use Rattle.lists.proofs.Select.{select-same}
 use Rattle.lists.proofs.Counts.{select-fewer, select-more}
 use Rattle.lists.proofs.Alike.{and-false}
 use Rattle.words.proofs.Frame.{only-none, only-then}
+use Rattle.shapes.specs.Sizes.{mostMarks}
+use Rattle.numbers.specs.Sizes.{mostAround}
 use Rattle.numbers.specs.declared.Caps.{Caps}
 use Rattle.picture.specs.State.{State}
 use Rattle.picture.specs.Picture.{chainOf, corner, Pic}
 use Rattle.picture.specs.Changes.{withLink}
 use Rattle.picture.specs.Step.{Step}
 use Rattle.picture.proofs.Alike.{state-same}
-use Rattle.chain.specs.Chain.{Linked, MaySplice, MayUnsplice}
-use Rattle.edit.specs.Edit.{withLinks, MayLink, MayUnlink}
+use Rattle.chain.specs.Chain.{Linked, MayLink}
+use Rattle.edit.specs.Edit.{withLinks, MayLinks}
 
 module _ (s : State) (c : ℕ) (on : Bool) where
   -- in the chains of no mark: the same state
@@ -57,30 +60,6 @@ module _ (s : State) (c : ℕ) (on : Bool) where
           one-more (eqb (getD marks k 0) u) (eqb c j) (has u (take k marks)) (s .chain u j)
           ∙ ap (λ (b : Bool). cond (eqb c j && b) on (s .chain u j)) (sym (more u))
 
-module _ (caps : Caps) (w : List ℕ) (c : ℕ) (marks : List ℕ) (on : Bool) (ok : State → Type 0) where
-  -- after k turns the cell is in the chains of the first k marks, or out of them
-  abbrev pub Turns : List ℕ → ℕ → Type 0
-  Turns w′ k = Step caps w w′ ok (λ s. withLinks s c (take k marks) on)
-
-  pub turns-start : Turns w 0
-  turns-start = record { inside = only-none; state = λ s p k. rw (links-none s c on) p }
-
-  -- a turn: the corner j of the cell d, which is the mark v
-  pub turns-more : (may : ℕ → ℕ → ℕ → State → Type 0) (w′ w″ : List ℕ) (k v j d : ℕ) → Turns w′ k → v ≡ getD marks k 0 → j ≡ k → d ≡ c
-      → Step caps w′ w″ (may v j d) (λ s. withLink s v d on) → k < length marks
-      → ((s : State) → ok s → may (getD marks k 0) k c (withLinks s c (take k marks) on)) → Turns w″ (k + 1)
-  turns-more may w′ w″ k v j d t e f g step l allowed = record {
-    inside = only-then (t .inside) (step .inside);
-    state = λ s p o. rw (← links-one s c on marks k l) (rw (e, f, g) at step .state _ (t .state s p o) (allowed s o));
-  }
-
-  pub turns-end : (w′ : List ℕ) (k : ℕ) → Turns w′ k → ((s : State) → ok s → length marks ≤ k)
-      → Step caps w w′ ok (λ s. withLinks s c marks on)
-  turns-end w′ k t all = record {
-    inside = t .inside;
-    state = λ s p o. subst (λ (l : List ℕ). Pic w′ caps (withLinks s c l on)) (take-all k marks (all s o)) (t .state s p o);
-  }
-
 module _ (caps : Caps) (s : State) (c : ℕ) (part : List ℕ) (on : Bool) where
   -- in the chain of another mark every cell is as it was
   part-other : (u k : ℕ) → has u part ≡ false → withLinks s c part on .chain u k ≡ s .chain u k
@@ -102,7 +81,7 @@ module _ (caps : Caps) (s : State) (c : ℕ) (part : List ℕ) (on : Bool) where
 
   -- the chains stay linked where those of these marks do not grow too long
   part-linked : Linked caps s → ((u : ℕ) → has u part ≡ true → has u (s .at c .marks) ≡ true)
-      → ((u : ℕ) → has u part ≡ true → length (chainOf caps (withLinks s c part on) u) ≤ 128) → Linked caps (withLinks s c part on)
+      → ((u : ℕ) → has u part ≡ true → length (chainOf caps (withLinks s c part on) u) ≤ mostAround) → Linked caps (withLinks s c part on)
   unfolding withLinks
   part-linked l own few = record {
     held = λ u k t. held u k (eqb c k) refl (has u part) refl t;
@@ -117,7 +96,7 @@ module _ (caps : Caps) (s : State) (c : ℕ) (part : List ℕ) (on : Bool) where
       held u k true e false h t = l .held u k t
       held u k false e q h t = l .held u k t
 
-      short : (u : ℕ) (q : Bool) → has u part ≡ q → length (chainOf caps (withLinks s c part on) u) ≤ 128
+      short : (u : ℕ) (q : Bool) → has u part ≡ q → length (chainOf caps (withLinks s c part on) u) ≤ mostAround
       short u true h = few u h
       short u false h = rw (part-chain u h) (l .few u)
 
@@ -139,11 +118,14 @@ module _ (caps : Caps) (s : State) (c : ℕ) (part : List ℕ) (u : ℕ) where
       go true x t = absurd (clash t refl)
       go false x t = t
 
+  -- so it is not too long where it was not, and had room for the cell
+  part-short : (on : Bool) → Linked caps s → c < caps .cells → has u part ≡ true → s .chain u c ≡ not on
+      → (on ≡ true → length (chainOf caps s u) < mostAround) → length (chainOf caps (withLinks s c part on) u) ≤ mostAround
+  part-short true l h e f few = omega (arith, few refl, part-more h e f)
+  part-short false l h e f few = omega (arith, l .few u, part-fewer)
+
 -- a cell's marks
 module _ (caps : Caps) (s : State) (c : ℕ) (marks : List ℕ) (l : Linked caps s) (e : s .at c .marks ≡ marks) where
-  all-few : length marks ≤ 8
-  all-few = rw e at (l .corners c)
-
   -- the first k of them, and the next
   module _ (k : ℕ) (h : k < length marks) where
     first-at : (u : ℕ) → has u (take k marks) ≡ true → (j : ℕ) × (j < k) × (getD marks j 0 ≡ u)
@@ -167,25 +149,23 @@ module _ (caps : Caps) (s : State) (c : ℕ) (marks : List ℕ) (l : Linked caps
     unfolding corner withLinks
     next-corner on = rw e
 
-    next-linked : (on : Bool) → ((u : ℕ) → has u (take k marks) ≡ true → length (chainOf caps (withLinks s c (take k marks) on) u) ≤ 128)
+    next-linked : (on : Bool) → ((u : ℕ) → has u (take k marks) ≡ true → length (chainOf caps (withLinks s c (take k marks) on) u) ≤ mostAround)
         → Linked caps (withLinks s c (take k marks) on)
     next-linked on few = part-linked caps s c (take k marks) on l (λ u t. rw e (first-has u t)) few
 
-module _ (caps : Caps) (c : ℕ) (marks : List ℕ) (s : State) where
-  pub link-few : MayLink caps c marks s → length marks ≤ 8
-  link-few m = all-few caps s c marks (m .linked) (m .corners)
-
-  -- the next mark's chain may take the cell
-  pub link-next : MayLink caps c marks s → (k : ℕ) → k < length marks → MaySplice caps (getD marks k 0) k c (withLinks s c (take k marks) true)
+module _ (caps : Caps) (c : ℕ) (marks : List ℕ) (on : Bool) (s : State) where
+  -- the next mark's chain may take the cell, or give it up
+  links-next : MayLinks caps c marks on s → (k : ℕ) → k < length marks
+      → MayLink caps (getD marks k 0) k c on (withLinks s c (take k marks) on)
   unfolding withLinks
-  link-next m k h = record {
-    linked = next-linked caps s c marks (m .linked) (m .corners) k h true longer;
+  links-next m k h = record {
+    linked = next-linked caps s c marks (m .linked) (m .corners) k h on short;
     mark = m .inside v here;
     cell = m .cell;
     place = rw (m .corners) h;
-    corner = next-corner caps s c marks (m .linked) (m .corners) k h true;
-    free = part-other caps s c (take k marks) true v c new ∙ m .loose v here;
-    few = rw (part-chain caps s c (take k marks) true v new) (omega (arith, m .few v here));
+    corner = next-corner caps s c marks (m .linked) (m .corners) k h on;
+    was = part-other caps s c (take k marks) on v c new ∙ m .was v here;
+    few = λ e. rw (part-chain caps s c (take k marks) on v new) (m .few e v here);
   }
     where
       v : ℕ
@@ -197,27 +177,37 @@ module _ (caps : Caps) (c : ℕ) (marks : List ℕ) (s : State) where
       new : has v (take k marks) ≡ false
       new = next-new caps s c marks (m .linked) (m .corners) k h
 
-      longer : (u : ℕ) → has u (take k marks) ≡ true → length (chainOf caps (withLinks s c (take k marks) true) u) ≤ 128
-      longer u t =
+      short : (u : ℕ) → has u (take k marks) ≡ true → length (chainOf caps (withLinks s c (take k marks) on) u) ≤ mostAround
+      short u t =
           let mine = first-has caps s c marks (m .linked) (m .corners) k h u t in
-          omega (arith, m .few u mine, part-more caps s c (take k marks) u (m .cell) t (m .loose u mine))
+          part-short caps s c (take k marks) u on (m .linked) (m .cell) t (m .was u mine) (λ e. m .few e u mine)
 
-  pub unlink-few : MayUnlink caps c marks s → length marks ≤ 8
-  unlink-few m = all-few caps s c marks (m .linked) (m .corners)
+module _ (caps : Caps) (w : List ℕ) (c : ℕ) (marks : List ℕ) (on : Bool) where
+  -- after k turns the cell is in the chains of the first k marks, or out of them
+  abbrev pub Turns : List ℕ → ℕ → Type 0
+  Turns w′ k = Step caps w w′ (MayLinks caps c marks on) (λ s. withLinks s c (take k marks) on)
 
-  -- the cell may go from the next mark's chain
-  pub unlink-next : MayUnlink caps c marks s → (k : ℕ) → k < length marks
-      → MayUnsplice caps (getD marks k 0) k c (withLinks s c (take k marks) false)
-  unfolding withLinks
-  unlink-next m k h = record {
-    linked =
-        next-linked caps s c marks (m .linked) (m .corners) k h false
-        (λ u t. omega (arith, m .linked .few u, part-fewer caps s c (take k marks) u));
-    mark = m .inside (getD marks k 0) (at-has marks k h);
-    cell = m .cell;
-    place = rw (m .corners) h;
-    corner = next-corner caps s c marks (m .linked) (m .corners) k h false;
-    there =
-        part-other caps s c (take k marks) false (getD marks k 0) c (next-new caps s c marks (m .linked) (m .corners) k h)
-        ∙ m .held (getD marks k 0) (at-has marks k h);
+  pub turns-start : Turns w 0
+  turns-start = record { inside = only-none; state = λ s p k. rw (links-none s c on) p }
+
+  -- a turn: the corner j of the cell d, which is the mark v
+  pub turns-more : (w′ w″ : List ℕ) (k v j d : ℕ) → Turns w′ k → v ≡ getD marks k 0 → j ≡ k → d ≡ c
+      → Step caps w′ w″ (MayLink caps v j d on) (λ s. withLink s v d on) → k < length marks → Turns w″ (k + 1)
+  turns-more w′ w″ k v j d t e f g step l = record {
+    inside = only-then (t .inside) (step .inside);
+    state = λ s p m.
+        rw (← links-one s c on marks k l) (rw (e, f, g) at step .state _ (t .state s p m) (links-next caps c marks on s m k l));
   }
+
+  -- all marks: there are no more, or these are as many as a cell can have
+  pub turns-end : (w′ : List ℕ) (k : ℕ) → Turns w′ k → (k < mostMarks → length marks ≤ k)
+      → Step caps w w′ (MayLinks caps c marks on) (λ s. withLinks s c marks on)
+  turns-end w′ k t all = record {
+    inside = t .inside;
+    state = λ s p m.
+        subst (λ (l : List ℕ). Pic w′ caps (withLinks s c l on)) (take-all k marks (past s m (decLt k mostMarks))) (t .state s p m);
+  }
+    where
+      past : (s : State) → MayLinks caps c marks on s → Dec (k < mostMarks) → length marks ≤ k
+      past s m (yes l) = all l
+      past s m (no f) = omega (arith, rw (m .corners) at (m .linked .corners c))

@@ -29,8 +29,9 @@ use Rattle.shapes.specs.Sizes.{mostCode}
 use Rattle.shapes.proofs.Facts.{facts}
 use Rattle.shapes.proofs.Types.{type-code}
 use Rattle.settle.specs.Settle.{MaySettle, settled}
-use Rattle.edit.specs.Edit.{withLinks, MayLink}
+use Rattle.edit.specs.Edit.{withLinks, MayLinks}
 use Rattle.edit.proofs.Around.{Turn, turn-in, links-hold, Around, no-sib, around-settle, around-wf}
+use Rattle.store.specs.Layout.{nearMarks}
 
 -- the state with the cell's body, and then in the chains of its marks
 abbrev pub bodied : Map → ℕ → Body → State
@@ -40,7 +41,7 @@ abbrev pub joined : Map → ℕ → Body → State
 joined m c x = withLinks (bodied m c x) c (x .marks) true
 
 -- a number that is not live has no marks
-dead-short : (m : Map) → Sound m → (c : ℕ) → live m c ≡ false → length (m .at c .marks) ≤ 4
+dead-short : (m : Map) → Sound m → (c : ℕ) → live m c ≡ false → length (m .at c .marks) ≤ nearMarks
 unfolding noCell
 dead-short m s c e = rw (s .dead c e) (omega arith)
 
@@ -49,16 +50,16 @@ module _ (m : Map) (s : Sound m) (c : ℕ) (x : Body) (r : MayInsert m c x) wher
   none : (v : ℕ) → holds m v c ≡ false
   none v = none-holds m c (s .dead c (r .free)) v
 
-  pub may-write : MayWrite (m .caps) c (x .marks) (ltb 4 (length (x .marks))) (stateOf m)
+  pub may-write : MayWrite (m .caps) c (x .marks) (ltb nearMarks (length (x .marks))) (stateOf m)
   unfolding stateOf
   may-write = record {
     cell = r .number;
     loose = none;
-    near = λ e. (before, ltb-false 4 (length (x .marks)) e);
-    all = λ e. inl (ltb-true 4 (length (x .marks)) e);
+    near = λ e. (before, ltb-false nearMarks (length (x .marks)) e);
+    all = λ e. inl (ltb-true nearMarks (length (x .marks)) e);
   }
     where
-      before : length (m .at c .marks) ≤ 4
+      before : length (m .at c .marks) ≤ nearMarks
       before = dead-short m s c (r .free)
 
   -- the chains without the cell are those of the map before
@@ -78,15 +79,15 @@ module _ (m : Map) (s : Sound m) (c : ℕ) (x : Body) (r : MayInsert m c x) wher
       held v k e (yes q) = absurd (clash (rw q at e) (none v))
       held v k e (no n) = rw (more-insert m s c x r .apart .other k n) e
 
-  pub may-link : MayLink (m .caps) c (x .marks) (bodied m c x)
+  pub may-links : MayLinks (m .caps) c (x .marks) true (bodied m c x)
   unfolding stateOf withBody chainOf changed put holders
-  may-link = record {
+  may-links = record {
     linked = still-linked;
     cell = r .number;
     corners = ap (λ (b : Body). b .marks) (more-insert m s c x r .after);
     inside = r .inside;
-    loose = λ v e. none v;
-    few = λ v e. omega (arith, r .few v e);
+    was = λ v e. none v;
+    few = λ on v e. omega (arith, r .few v e);
   }
 
   pub same-map : mapWith (m .caps) (joined m c x) ≡ changed m (Insert c x)

@@ -10,12 +10,13 @@ use borrow.Author.Tests.{eq-eqb, ne-eqb, lt-ltb, le-ltb, ltb-false}
 use lib.Dec.{eqb, ltb}
 use lib.ListN.{length}
 use Rattle.lists.specs.Lists.{has}
-use Rattle.shapes.specs.Sizes.{mostCode}
+use Rattle.lists.proofs.Bools.{clash}
+use Rattle.shapes.specs.Sizes.{mostFacets, mostCode}
 use Rattle.shapes.proofs.Types.{type-code}
 use Rattle.shapes.specs.Table.{table}
 use Rattle.words.proofs.Frame.{only-none, only-then}
 use Rattle.numbers.specs.declared.Caps.{Caps}
-use Rattle.numbers.specs.Half.{halfOf}
+use Rattle.numbers.specs.Half.{cut, halfOf}
 use Rattle.map.specs.Cells.{Map, noCell, dimensionAt, holds, cellsOf}
 use Rattle.map.specs.History.{Remove, put, changed}
 use Rattle.map.specs.Sound.{Sound}
@@ -29,9 +30,10 @@ use Rattle.picture.specs.Step.{Step}
 use Rattle.picture.specs.Writes.{MayWrite}
 use Rattle.chain.proofs.Readied.{ready-linked}
 use Rattle.settle.specs.Settle.{MaySettle, settled}
-use Rattle.edit.specs.Edit.{withLinks, MayUnlink}
+use Rattle.edit.specs.Edit.{withLinks, MayLinks}
 use Rattle.edit.specs.Cleared.{clearedTo, cleared}
 use Rattle.edit.proofs.Around.{Turn, turn-out, links-hold, Around, past-sib, around-settle, around-wf}
+use Rattle.store.specs.Layout.{nearMarks}
 
 -- the state with the cell out of the chains of its marks, then with no cell there, then with no siblings of it
 abbrev pub parted : Map → ℕ → State
@@ -45,13 +47,13 @@ gone m c = cleared (emptied m c) c
 
 module _ (s : State) (c h : ℕ) where
   -- the siblings of the cell are cleared
-  cleared-own : h / 8 ≡ c → (6 ≤ h % 8 → s .sib h ≡ 0) → cleared s c .sib h ≡ 0
+  cleared-own : h / 8 ≡ c → (mostFacets ≤ h % 8 → s .sib h ≡ 0) → cleared s c .sib h ≡ 0
   unfolding clearedTo
-  cleared-own q past = rw (eq-eqb (h / 8) c q) (go (decLt (h % 8) 6))
+  cleared-own q past = rw (eq-eqb (h / 8) c q) (go (decLt (h % 8) mostFacets))
     where
-      go : Dec (h % 8 < 6) → cond (ltb (h % 8) 6) 0 (s .sib h) ≡ 0
-      go (yes l) = rw (lt-ltb (h % 8) 6 l)
-      go (no f) = rw (le-ltb (h % 8) 6 (omega arith)) (past (omega arith))
+      go : Dec (h % 8 < mostFacets) → cond (ltb (h % 8) mostFacets) 0 (s .sib h) ≡ 0
+      go (yes l) = rw (lt-ltb (h % 8) mostFacets l)
+      go (no f) = rw (le-ltb (h % 8) mostFacets (omega arith)) (past (omega arith))
 
   -- and no others
   cleared-other : (h / 8 ≡ c → ⊥) → cleared s c .sib h ≡ s .sib h
@@ -70,7 +72,7 @@ none-cleared s c = ap (with-sibs s) (fun-ext (λ h. rw (le-ltb (h % 8) 0 (omega 
     go true h = refl
     go false h = refl
 
-one-more : (s : State) (c k : ℕ) → k < 8 → withSib (clearedTo s c k) (8 * c + k) 0 ≡ clearedTo s c (k + 1)
+one-more : (s : State) (c k : ℕ) → k < mostFacets → withSib (clearedTo s c k) (8 * c + k) 0 ≡ clearedTo s c (k + 1)
 unfolding clearedTo withSib with-sibs
 one-more s c k l = ap (with-sibs s) (fun-ext (λ h. go h (ℕ-discrete (h / 8) c) (ℕ-discrete (h % 8) k)))
   where
@@ -88,8 +90,8 @@ module _ (caps : Caps) (c : ℕ) (w : List ℕ) where
   pub clears-start : Step caps w w (λ s. c < caps .cells) (λ s. clearedTo s c 0)
   clears-start = record { inside = only-none; state = λ s p l. subst (λ (x : State). Pic w caps x) (sym (none-cleared s c)) p }
 
-  pub clears-more : (w′ w″ : List ℕ) (k h x : ℕ) → Step caps w w′ (λ s. c < caps .cells) (λ s. clearedTo s c k) → h ≡ halfOf (c % 65536) (k % 8) → x ≡ 0
-      → Step caps w′ w″ (λ s. (h / 8 < caps .cells) × (h % 8 < 6)) (λ s. withSib s h x) → k < 6 → Step caps w w″ (λ s. c < caps .cells) (λ s. clearedTo s c (k + 1))
+  pub clears-more : (w′ w″ : List ℕ) (k h x : ℕ) → Step caps w w′ (λ s. c < caps .cells) (λ s. clearedTo s c k) → h ≡ halfOf (cut c) (k % 8) → x ≡ 0
+      → Step caps w′ w″ (λ s. (h / 8 < caps .cells) × (h % 8 < mostFacets)) (λ s. withSib s h x) → k < mostFacets → Step caps w w″ (λ s. c < caps .cells) (λ s. clearedTo s c (k + 1))
   unfolding halfOf
   clears-more w′ w″ k h x a e z b l = record {
     inside = only-then (a .inside) (b .inside);
@@ -100,14 +102,15 @@ module _ (caps : Caps) (c : ℕ) (w : List ℕ) where
   }
 
 module _ (m : Map) (s : Sound m) (c : ℕ) (r : MayRemove m c) where
-  pub may-unlink : MayUnlink (m .caps) c (m .at c .marks) (stateOf m)
+  pub may-links : MayLinks (m .caps) c (m .at c .marks) false (stateOf m)
   unfolding stateOf mapWith holds
-  may-unlink = record {
+  may-links = record {
     linked = ready-linked (m .caps) (stateOf m) (record { sound = s; chains = λ v k. refl });
     cell = r .number;
     corners = refl;
     inside = λ v e. s .inside v c e;
-    held = λ v e. e;
+    was = λ v e. e;
+    few = λ on. absurd (clash on refl);
   }
 
   turn : Turn m (changed m (Remove c)) c (m .at c .code) (m .at c .marks)
@@ -120,12 +123,12 @@ module _ (m : Map) (s : Sound m) (c : ℕ) (r : MayRemove m c) where
       links-hold m (changed m (Remove c)) c (m .at c .marks) false (turn .apart) (turn .free)
       (λ v e. rw (more-remove m s c r .before)) (stateOf m) (λ v k. refl)
 
-  pub may-write : MayWrite (m .caps) c [] (ltb 4 (length (m .at c .marks))) (parted m c)
+  pub may-write : MayWrite (m .caps) c [] (ltb nearMarks (length (m .at c .marks))) (parted m c)
   unfolding withLinks stateOf
   may-write = record {
     cell = r .number;
     loose = λ v. links v c ∙ none-holds (changed m (Remove c)) c (more-remove m s c r .before) v;
-    near = λ e. (ltb-false 4 (length (m .at c .marks)) e, omega arith);
+    near = λ e. (ltb-false nearMarks (length (m .at c .marks)) e, omega arith);
     all = λ e. inr refl;
   }
 

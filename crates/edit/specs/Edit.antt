@@ -1,13 +1,14 @@
 -- An edit made in memory.
 use mathlib.Core.Path.{_≡_}
-use mathlib.Core.Bool.{Bool, true, false, cond, _&&_}
+use mathlib.Core.Bool.{Bool, true, cond, not, _&&_}
 use mathlib.Core.List.{List}
-use Prim.Native.Nat.{ℕ, _+_, _<_}
+use Prim.Native.Nat.{ℕ, _<_}
 use lib.Dec.{eqb}
 use lib.ListN.{length}
 use Rattle.lists.specs.Lists.{has}
 use Rattle.words.specs.Words.{Only}
 use Rattle.numbers.specs.declared.Caps.{Caps}
+use Rattle.numbers.specs.Sizes.{mostAround}
 use Rattle.store.specs.Layout.{room}
 use Rattle.map.specs.Cells.{Map}
 use Rattle.map.specs.History.{Edit, editAnswer, changed}
@@ -25,22 +26,14 @@ withLinks s c marks on = record {
   count = s .count;
 }
 
--- the cell, whose marks these are, may go into their chains
-pub record MayLink (caps : Caps) (c : ℕ) (marks : List ℕ) (s : State) : Type 0 where
+-- the cell, whose marks these are, may go into their chains, or out of them: it is in none of them yet, or in all
+pub record MayLinks (caps : Caps) (c : ℕ) (marks : List ℕ) (on : Bool) (s : State) : Type 0 where
   pub linked : Linked caps s
   pub cell : c < caps .cells
   pub corners : s .at c .marks ≡ marks
   pub inside : (v : ℕ) → has v marks ≡ true → v < caps .marks
-  pub loose : (v : ℕ) → has v marks ≡ true → s .chain v c ≡ false
-  pub few : (v : ℕ) → has v marks ≡ true → length (chainOf caps s v) + 1 < 129
-
--- or out of them
-pub record MayUnlink (caps : Caps) (c : ℕ) (marks : List ℕ) (s : State) : Type 0 where
-  pub linked : Linked caps s
-  pub cell : c < caps .cells
-  pub corners : s .at c .marks ≡ marks
-  pub inside : (v : ℕ) → has v marks ≡ true → v < caps .marks
-  pub held : (v : ℕ) → has v marks ≡ true → s .chain v c ≡ true
+  pub was : (v : ℕ) → has v marks ≡ true → s .chain v c ≡ not on
+  pub few : on ≡ true → (v : ℕ) → has v marks ≡ true → length (chainOf caps s v) < mostAround
 
 -- an edit that the map accepts, made: the words of the edited map, and nothing beyond the room
 pub record Made (caps : Caps) (w w′ : List ℕ) (e : Edit) : Type 0 where

@@ -1,17 +1,15 @@
 // The parts of an edit around one cell: in all chains of its marks, or out of them, and its siblings cleared.
 //
-// What is here: `link_all` puts a cell into the chains of its marks, `unlink_all` takes it out of them, `clear_siblings` writes 0 for
-// the siblings of its half-facets. All are total on any memory. What is proved: on the picture of a state that allows the step
-// (`MayLink`, `MayUnlink`) what is left is the picture of the state so changed, and on any memory nothing beyond the room changes; the
-// laws of a whole insertion and a whole removal are in proofs/Inserts.antt and proofs/Removes.antt. What a caller should know: only the
-// first eight marks are read, and no type has more; the body is written before the chains, and taken after them.
-ghost use mathlib.Core.Bool.{true, false};
+// What is here: `relink_all` puts a cell into the chains of its marks or takes it out of them, `clear_siblings` writes 0 for the siblings
+// of its half-facets. Both are total on any memory. What is proved: on the picture of a state that allows the step (`MayLinks`) what is
+// left is the picture of the state so changed, and on any memory nothing beyond the room changes; the laws of a whole insertion and a
+// whole removal are in proofs/Inserts.antt and proofs/Removes.antt. What a caller should know: only the first eight marks are read, and
+// no type has more; the body is written before the chains, and taken after them.
 ghost use Prim.Native.Nat.{_<_};
 ghost use Rattle.picture.specs.Step.{Step};
-ghost use Rattle.edit.specs.Edit.{withLinks, MayLink, MayUnlink};
+ghost use Rattle.edit.specs.Edit.{withLinks, MayLinks};
 ghost use Rattle.edit.specs.Cleared.{cleared};
-use chain::splice;
-use chain::unsplice;
+use chain::relink;
 use numbers::Caps;
 use numbers::Cell;
 use numbers::Half;
@@ -22,30 +20,16 @@ use shapes::MOST_FACETS;
 use shapes::MOST_MARKS;
 use words::word;
 
-// The cell c, whose marks these are, put into the chain of each.
-pub fn link_all(w: &mut [u32], caps: Caps, c: Cell, marks: &[u32])
-    ensures { λ _. ⌜ Step caps (now (w .entry)) (now (w .exit)) (MayLink caps (c .0) (now (marks .entry))) (λ s. withLinks s (c .0) (now (marks .entry)) true) ⌝ }
+// The cell c, whose marks these are, put into the chain of each, or taken out of it.
+pub fn relink_all(w: &mut [u32], caps: Caps, c: Cell, marks: &[u32], on: bool)
+    ensures { λ _. ⌜ Step caps (now (w .entry)) (now (w .exit)) (MayLinks caps (c .0) (now (marks .entry)) on) (λ s. withLinks s (c .0) (now (marks .entry)) on) ⌝ }
 {
     let mut k: u32 = 0;
     while k < MOST_MARKS {
         if marks.len() <= k as usize {
             return;
         }
-        splice(w, caps, Mark(word(marks, k as usize)), k, c);
-        k += 1;
-    }
-}
-
-// The cell c, whose marks these are, taken out of the chain of each.
-pub fn unlink_all(w: &mut [u32], caps: Caps, c: Cell, marks: &[u32])
-    ensures { λ _. ⌜ Step caps (now (w .entry)) (now (w .exit)) (MayUnlink caps (c .0) (now (marks .entry))) (λ s. withLinks s (c .0) (now (marks .entry)) false) ⌝ }
-{
-    let mut k: u32 = 0;
-    while k < MOST_MARKS {
-        if marks.len() <= k as usize {
-            return;
-        }
-        unsplice(w, caps, Mark(word(marks, k as usize)), k, c);
+        relink(w, caps, Mark(word(marks, k as usize)), k, c, on);
         k += 1;
     }
 }

@@ -25,6 +25,7 @@ use Rattle.listing.specs.Listing.{Listing}
 use Rattle.build.specs.Builds.{placed, formatRefusal, buildAnswer, Builds}
 use Rattle.evening.specs.Story.{Story}
 use Rattle.evening.proofs.Stories.{story-wf}
+use Rattle.numbers.specs.Sizes.{mostCapacity}
 
 -- two well-formed memories of one map answer every query alike
 module _ {a b : List ℕ} {m : Map} (x : Wf a m) (y : Wf b m) where
@@ -43,12 +44,12 @@ module _ {a b : List ℕ} {m : Map} (x : Wf a m) (y : Wf b m) where
       (value-one r r′ (u .0 ∙ sym (v .0)), u .1 ∙ sym (v .1))
 
 -- a format of capacities within the limits in memory as long as the room is accepted
-format-good : (words : ℕ) (caps : Caps) → caps .marks ≤ 65535 → caps .cells ≤ 65535 → room (caps .marks) (caps .cells) ≤ words
+format-good : (words : ℕ) (caps : Caps) → caps .marks ≤ mostCapacity → caps .cells ≤ mostCapacity → room (caps .marks) (caps .cells) ≤ words
     → formatRefusal words caps ≡ 0
 unfolding formatRefusal formatChecks _when_ answer
 format-good words caps p q fits =
     let passed : answer (formatChecks words caps) [] ≡ record { refusal = 0; values = [] } =
-    rw (le-ltb 65535 (caps .marks) p, le-ltb 65535 (caps .cells) q, le-ltb words (room (caps .marks) (caps .cells)) fits) in
+    rw (le-ltb mostCapacity (caps .marks) p, le-ltb mostCapacity (caps .cells) q, le-ltb words (room (caps .marks) (caps .cells)) fits) in
     ap (λ (a : Answer). a .refusal) passed
 
 module _ {w : List ℕ} {m : Map} (s : Story w m) (other : List Live) (order : Shuffled (liveCells m) other) {b b′ : List ℕ} {r : Built}

@@ -29,6 +29,7 @@ use Rattle.mesh.specs.Edited.{Edited}
 use Rattle.evening.specs.Records.{SameMark, SameCell}
 use Rattle.evening.proofs.Halves.{half-mark}
 use Rattle.evening.proofs.Words.{same-mark, same-cell}
+use Rattle.store.specs.Layout.{nearMarks}
 
 module _ (m m′ : Map) (c : ℕ) (a : Apart m m′ c) where
   -- the chain of a mark that the cell holds in neither map is the same
@@ -105,7 +106,7 @@ module _ (m m′ : Map) (c : ℕ) (a : Apart m m′ c) where
     cell-kept (Near k) h = ap (λ (y : Body). getD (y .marks) k 0) at-kept
     cell-kept (Sib f) h = sib-kept (8 * x + f) (omega arith)
     cell-kept (Link k) h = links-kept k
-    cell-kept (Far k) h = ap (λ (y : Body). cond (ltb 4 (length (y .marks))) (getD (y .marks) k 0) 0) at-kept
+    cell-kept (Far k) h = ap (λ (y : Body). cond (ltb nearMarks (length (y .marks))) (getD (y .marks) k 0) 0) at-kept
     cell-kept (CellRest p) h = refl
 
 -- a word that is the same in two maps of the same capacities is the same in their memories

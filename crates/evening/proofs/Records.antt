@@ -16,7 +16,7 @@ use Rattle.numbers.proofs.Inverse.{half-cell, half-facet}
 use Rattle.shapes.specs.Shapes.{facetCount}
 use Rattle.shapes.specs.Sizes.{mostFacets, mostCode}
 use Rattle.shapes.proofs.Facts.{facts}
-use Rattle.store.specs.Layout.{markAt, nearAt}
+use Rattle.store.specs.Layout.{markWords, markAt, nearAt}
 use Rattle.store.specs.Fields.{Count, Anchor, markPlace, Place, InNear, InFar, Code, Sib, cellPlace}
 use Rattle.store.specs.Slots.{InHead, InCell, placeAt, address, read}
 use Rattle.map.specs.Cells.{Map, live, cellsOf}
@@ -107,7 +107,7 @@ module _ {w w′ : List ℕ} {m m′ : Map} (wf : Wf w m) (wf′ : Wf w′ m′)
 
   -- one mark number, below both capacities, with the same 8 words in both records
   module _ (v : ℕ) (below : v < m .caps .marks) (below′ : v < m′ .caps .marks)
-      (same : (k : ℕ) → k < 8 → getD w (markAt v + k) 0 ≡ getD w′ (markAt v + k) 0) where
+      (same : (k : ℕ) → k < markWords → getD w (markAt v + k) 0 ≡ getD w′ (markAt v + k) 0) where
     -- the mark has the same first anchor in both, or none in both, in each dimension
     pub first-anchor-fixed : (d : ℕ) → 1 ≤ d → d ≤ 3 → take 1 (anchors m d v) ≡ take 1 (anchors m′ d v)
     unfolding read address markPlace

@@ -4,14 +4,14 @@ use mathlib.Core.List.{List}
 use Prim.Native.Nat.{ℕ, _+_, _<_}
 use lib.ListN.{getD}
 use Rattle.numbers.specs.declared.Caps.{Caps}
-use Rattle.store.specs.Layout.{markAt, nearAt, farAt}
+use Rattle.store.specs.Layout.{markWords, markAt, nearAt, farAt}
 use Rattle.store.specs.Fields.{MarkField, MarkFits, CellField, CellFits}
 use Rattle.store.specs.Slots.{InMark, InCell, read}
 
 -- a mark's record: its fields, and all 8 words
 pub record SameMark (caps : Caps) (v : ℕ) (w w′ : List ℕ) : Type 0 where
   pub fields : (f : MarkField) → MarkFits f → read w′ caps (InMark v f) ≡ read w caps (InMark v f)
-  pub words : (k : ℕ) → k < 8 → getD w′ (markAt v + k) 0 ≡ getD w (markAt v + k) 0
+  pub words : (k : ℕ) → k < markWords → getD w′ (markAt v + k) 0 ≡ getD w (markAt v + k) 0
 
 -- a cell's record: its fields, all 16 words of its first part and all 16 of its second
 pub record SameCell (caps : Caps) (c : ℕ) (w w′ : List ℕ) : Type 0 where

@@ -13,8 +13,8 @@ use Rattle.words.specs.Words.{partOf}
 use Rattle.words.proofs.Fits.{part-fits}
 use Rattle.shapes.specs.Table.{entry}
 use Rattle.numbers.specs.declared.Caps.{Caps}
-use Rattle.store.specs.Slots.{codeIn}
-use Rattle.facet.specs.Facet.{MarksAt, marksIn, setMark, setIn, facetIn}
+use Rattle.facet.specs.Facet.{MarksAt, marksIn, setMark, setIn}
+use Rattle.shapes.specs.Sizes.{mostCorners}
 
 -- the part that was filled
 pub copied-part : (l o o′ : List ℕ) (r : ℕ) → Copied l o r o′ → length l ≤ length o → partOf o′ 0 r ≡ l
@@ -27,7 +27,7 @@ module _ (rows : List (List (List ℕ))) (t f : ℕ) (marks : List ℕ) where
   unfolding setMark
   set-here k p x g h = rw (← add-one k, ← g) h
 
-  pub set-copied : (o o′ : List ℕ) (n k e : ℕ) → n ≡ min 4 e → e ≡ entry rows t f 0 → Filled (listOf k (setMark rows t f marks)) o o′ → k ≤ n → n ≤ k
+  pub set-copied : (o o′ : List ℕ) (n k e : ℕ) → n ≡ min mostCorners e → e ≡ entry rows t f 0 → Filled (listOf k (setMark rows t f marks)) o o′ → k ≤ n → n ≤ k
       → Copied (setIn rows t f marks) o n o′
   unfolding setIn
   set-copied o o′ n k e size count fill a b =
@@ -36,23 +36,13 @@ module _ (rows : List (List (List ℕ))) (t f : ℕ) (marks : List ℕ) where
       same : k ≡ n
       same = omega arith
 
-  pub set-part : (o o′ : List ℕ) (r : ℕ) → Copied (setIn rows t f marks) o r o′ → length o ≡ 4 → partOf o′ 0 r ≡ setIn rows t f marks
+  -- a facet has at most four corners, so it fits where there is room for four
+  pub set-part : (o o′ : List ℕ) (r : ℕ) → Copied (setIn rows t f marks) o r o′ → length o ≡ mostCorners → partOf o′ 0 r ≡ setIn rows t f marks
   unfolding setIn
   set-part o o′ r g e =
-      copied-part (setIn rows t f marks) o o′ r g (omega (arith, length-listOf (min 4 (entry rows t f 0)) (setMark rows t f marks)))
+      copied-part (setIn rows t f marks) o o′ r g (omega (arith, length-listOf (min mostCorners (entry rows t f 0)) (setMark rows t f marks)))
 
--- a facet has at most four corners, so it fits where there is room for four
-pub facet-part : (w : List ℕ) (caps : Caps) (rows : List (List (List ℕ))) (c f : ℕ) (o o′ : List ℕ) (r : ℕ)
-    → Copied (facetIn w caps rows c f) o r o′ → length o ≡ 4 → partOf o′ 0 r ≡ facetIn w caps rows c f
-unfolding facetIn
-facet-part w caps rows c f o o′ r g e = set-part rows _ f _ o o′ r g e
-
--- the marks of a cell, as they are handed back; and so the facet of a cell is that of its type on its marks
+-- the marks of a cell, as they are handed back
 pub marks-words : (w : RefT (List ℕ)) (caps : Caps) (c : ℕ) (r : RefT (List ℕ)) → MarksAt w caps c r → now r ≡ marksIn (now w) caps c
 unfolding marksIn
 marks-words w caps c r m = m .part .words
-
-pub facet-copied : (w : List ℕ) (caps : Caps) (rows : List (List (List ℕ))) (c f t : ℕ) (marks o o′ : List ℕ) (r : ℕ) → t ≡ codeIn w caps c
-    → marks ≡ marksIn w caps c → Copied (setIn rows t f marks) o r o′ → Copied (facetIn w caps rows c f) o r o′
-unfolding facetIn
-facet-copied w caps rows c f t marks o o′ r e m g = rw (← e, ← m) g

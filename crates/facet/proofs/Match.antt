@@ -10,6 +10,7 @@ use Rattle.shapes.specs.Shapes.{facetCount}
 use Rattle.numbers.specs.declared.Caps.{Caps}
 use Rattle.store.specs.Slots.{codeIn}
 use Rattle.facet.specs.Facet.{facetIn, matchIn}
+use Rattle.shapes.specs.Sizes.{noFacet}
 
 module _ (w : List ℕ) (caps : Caps) (rows : List (List (List ℕ))) (c : ℕ) (set : List ℕ) (t n : ℕ)
     (code : t ≡ codeIn w caps c) (count : n ≡ facetCount t) where
@@ -20,9 +21,9 @@ module _ (w : List ℕ) (caps : Caps) (rows : List (List (List ℕ))) (c : ℕ) 
       → sameSet set (facetIn w caps rows c f) ≡ true → f < n → f ≡ matchIn w caps rows c set
   unfolding matchIn
   match-found f before e h =
-      rw facets (sym (first-select 8 (λ f. sameSet set (facetIn w caps rows c f)) n f h e before))
+      rw facets (sym (first-select noFacet (λ f. sameSet set (facetIn w caps rows c f)) n f h e before))
 
-  pub match-none : (f : ℕ) → ((k : ℕ) → k < f → sameSet set (facetIn w caps rows c k) ≡ false) → f ≡ n → 8 ≡ matchIn w caps rows c set
+  pub match-none : (f : ℕ) → ((k : ℕ) → k < f → sameSet set (facetIn w caps rows c k) ≡ false) → f ≡ n → noFacet ≡ matchIn w caps rows c set
   unfolding matchIn first
   match-none f before e =
       rw (facets, select-empty (λ f. sameSet set (facetIn w caps rows c f)) n (rw e at before))

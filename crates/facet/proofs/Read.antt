@@ -11,12 +11,14 @@ use Rattle.shapes.specs.Shapes.{shape, facetCount}
 use Rattle.shapes.specs.Table.{table}
 use Rattle.shapes.proofs.Facts.{facts}
 use Rattle.numbers.specs.declared.Caps.{Caps}
+use Rattle.store.specs.Slots.{codeIn}
 use Rattle.map.specs.Cells.{facetsAt}
 use Rattle.picture.specs.State.{State, mapWith}
 use Rattle.picture.specs.Picture.{Pic}
 use Rattle.picture.proofs.Record.{code-read, marks-read}
 use Rattle.facet.specs.Facet.{marksIn, facetIn, matchIn, matchAt}
 use Rattle.facet.proofs.Sets.{set-is}
+use Rattle.shapes.specs.Sizes.{noFacet}
 
 module _
     (w : List ℕ) (caps : Caps) (s : State) (p : Pic w caps s) (c : ℕ) (h : c < caps .cells) (fits : length (s .at c .marks) ≡ shape (s .at c .code) .marks)
@@ -27,7 +29,7 @@ module _
 
     -- past the last facet both are empty
     pub facet-read : (f : ℕ) → facetIn w caps table c f ≡ getD (facetsAt (mapWith caps s) c) f []
-    unfolding facetIn facetsAt mapWith
+    unfolding facetsAt mapWith
     facet-read f = rw (code-read w caps s p c h, marks-is) (set-is (s .at c .code) f (s .at c .marks))
 
     size : length (facetsAt (mapWith caps s) c) ≡ length (shape (s .at c .code) .facets)
@@ -37,12 +39,11 @@ module _
     pub match-read : (set : List ℕ) → matchIn w caps table c set ≡ matchAt (mapWith caps s) set c
     unfolding matchIn matchAt facetCount
     match-read set =
-        rw (code-read w caps s p c h)
-        (ap (first 8)
-        (select-same _ _ (length (shape (s .at c .code) .facets)) (λ f l. ap (sameSet set) (facet-read f)) ∙ count))
+        ap (first noFacet)
+        (select-same _ test (facetCount (codeIn w caps c)) (λ f l. ap (sameSet set) (facet-read f)) ∙ ap (select test) count)
       where
         test : ℕ → Bool
         test f = sameSet set (getD (facetsAt (mapWith caps s) c) f [])
 
-        count : select test (length (shape (s .at c .code) .facets)) ≡ select test (length (facetsAt (mapWith caps s) c))
-        count = ap (select test) (sym size)
+        count : facetCount (codeIn w caps c) ≡ length (facetsAt (mapWith caps s) c)
+        count = ap facetCount (code-read w caps s p c h) ∙ sym size

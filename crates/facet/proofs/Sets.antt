@@ -15,6 +15,7 @@ use Rattle.shapes.proofs.Facts.{facts}
 use Rattle.shapes.proofs.Padded.{table-size, table-place}
 use Rattle.map.specs.Cells.{setsOf}
 use Rattle.facet.specs.Facet.{setMark, setIn}
+use Rattle.shapes.specs.Sizes.{mostCorners}
 
 module _ (t f : ℕ) (marks : List ℕ) where
   -- the set that the table gives is the set of the definitions
@@ -26,17 +27,17 @@ module _ (t f : ℕ) (marks : List ℕ) where
       (λ k l. ap (λ (p : ℕ). getD marks p 0) (table-place t f k (omega (arith, few))))
       ∙ sym (List·getD-map (map (λ (place : ℕ). getD marks place 0)) (shape t .facets) f []))
     where
-      few : length (places t f) ≤ 4
+      few : length (places t f) ≤ mostCorners
       few = facts t .corners f
 
-      size : min 4 (entry table t f 0) ≡ length (places t f)
+      size : min mostCorners (entry table t f 0) ≡ length (places t f)
       size = omega (arith, table-size t f, few)
 
   -- it has a first mark, one of the marks
   pub set-first : f < facetCount t → length marks ≡ shape t .marks → (0 < length (setIn table t f marks)) × (has (getD (setIn table t f marks) 0 0) marks ≡ true)
   unfolding setIn setMark places facetCount
   set-first h count = (
-    omega (arith, length-listOf (min 4 (entry table t f 0)) (setMark table t f marks), table-size t f, facts t .some f h),
-    rw (list-at (min 4 (entry table t f 0)) (setMark table t f marks) 0 0 (omega (arith, table-size t f, facts t .some f h)), table-place t f 0 (omega arith))
+    omega (arith, length-listOf (min mostCorners (entry table t f 0)) (setMark table t f marks), table-size t f, facts t .some f h),
+    rw (list-at (min mostCorners (entry table t f 0)) (setMark table t f marks) 0 0 (omega (arith, table-size t f, facts t .some f h)), table-place t f 0 (omega arith))
         (at-has marks (getD (places t f) 0 0) (omega (arith, facts t .inside f 0 (facts t .some f h)))),
   )

@@ -6,7 +6,7 @@ use lib.ListN.{getD, length}
 use Rattle.lists.specs.Lists.{sameSet, select, first, listOf}
 use Rattle.words.specs.Words.{partOf, Part}
 use Rattle.shapes.specs.Shapes.{shape, facetCount}
-use Rattle.shapes.specs.Sizes.{mostCorners}
+use Rattle.shapes.specs.Sizes.{noFacet, mostCorners}
 use Rattle.shapes.specs.Table.{entry}
 use Rattle.numbers.specs.declared.Caps.{Caps}
 use Rattle.store.specs.Slots.{codeIn, marksAt}
@@ -28,13 +28,13 @@ unfoldable pub setIn : List (List (List ℕ)) → ℕ → ℕ → List ℕ → L
 setIn rows t f marks = listOf (min mostCorners (entry rows t f 0)) (setMark rows t f marks)
 
 -- and of a facet of a cell
-unfoldable pub facetIn : List ℕ → Caps → List (List (List ℕ)) → ℕ → ℕ → List ℕ
+abbrev pub facetIn : List ℕ → Caps → List (List (List ℕ)) → ℕ → ℕ → List ℕ
 facetIn w caps rows c f = setIn rows (codeIn w caps c) f (marksIn w caps c)
 
 -- the first facet of the cell with this set of marks; 8 where there is none
 unfoldable pub matchIn : List ℕ → Caps → List (List (List ℕ)) → ℕ → List ℕ → ℕ
-matchIn w caps rows c set = first 8 (select (λ f. sameSet set (facetIn w caps rows c f)) (facetCount (codeIn w caps c)))
+matchIn w caps rows c set = first noFacet (select (λ f. sameSet set (facetIn w caps rows c f)) (facetCount (codeIn w caps c)))
 
 -- and by the map
 unfoldable pub matchAt : Map → List ℕ → ℕ → ℕ
-matchAt m set c = first 8 (select (λ f. sameSet set (getD (facetsAt m c) f [])) (length (facetsAt m c)))
+matchAt m set c = first noFacet (select (λ f. sameSet set (getD (facetsAt m c) f [])) (length (facetsAt m c)))

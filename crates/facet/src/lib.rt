@@ -17,6 +17,7 @@ use numbers::Cell;
 use numbers::Mark;
 use shapes::FacetTable;
 use shapes::MOST_CORNERS;
+use shapes::NO_FACET;
 use shapes::column;
 use shapes::facet_count;
 use shapes::mark_count;
@@ -96,5 +97,5 @@ pub fn matching(w: &[u32], caps: Caps, rows: &FacetTable, c: Cell, set: &[u32]) 
         }
         f += 1;
     }
-    8
+    NO_FACET
 }

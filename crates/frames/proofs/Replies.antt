@@ -8,7 +8,7 @@ use borrow.Author.Tests.{le-ltb}
 use lib.Dec.{ltb}
 use lib.ListN.{length}
 use Rattle.numbers.specs.Half.{halfOf}
-use Rattle.numbers.specs.Sizes.{capacities}
+use Rattle.numbers.specs.Sizes.{mostCapacity, capacities}
 use Rattle.numbers.specs.Room.{room}
 use Rattle.map.specs.declared.Refusal.{Refusal}
 use Rattle.map.specs.declared.Refusal.the-variants.{CapacityAbove, BadFrame}
@@ -69,7 +69,7 @@ module _ (m : Map) where
   reply-format marks cells words v a b h e =
       sym
       (e
-      ∙ rw (le-ltb 65535 marks (omega arith), le-ltb 65535 cells (omega arith), le-ltb words (room marks cells) (omega arith), le-ltb 384 marks a, le-ltb 384 cells b))
+      ∙ rw (le-ltb mostCapacity marks (omega arith), le-ltb mostCapacity cells (omega arith), le-ltb words (room marks cells) (omega arith), le-ltb 384 marks a, le-ltb 384 cells b))
 
   pub map-format : (marks cells : ℕ) → marks ≤ 384 → cells ≤ 384 → mapAfter m (Format marks cells) ≡ empty (capacities marks cells)
   unfolding mapAfter replyTo answer _when_

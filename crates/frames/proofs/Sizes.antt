@@ -9,6 +9,7 @@ use Rattle.map.specs.declared.Verdict.{Verdict}
 use Rattle.map.specs.declared.Verdict.the-variants as Verdict′
 use Rattle.map.specs.Says.{given, refused, verdictSays}
 use Rattle.frames.specs.Frames.{twoBytes, each, counted, cellAndFacet, hex, written}
+use Rattle.numbers.specs.Sizes.{mostAround}
 
 hex-length : (l : List ℕ) → length (hex l) ≡ 2 * length l
 unfolding hex
@@ -47,8 +48,8 @@ unfolding cellAndFacet twoBytes
 halves-length l = written-length (counted cellAndFacet l) ∙ omega (arith, counted-length cellAndFacet 3 (λ x. refl) l)
 
 -- a star and its anchors have 128 members at most
-pub cells-room : (l : List ℕ) → length l ≤ 128 → length (written (given (counted twoBytes l))) ≤ 775
+pub cells-room : (l : List ℕ) → length l ≤ mostAround → length (written (given (counted twoBytes l))) ≤ 775
 cells-room l h = omega (arith, cells-length l)
 
-pub halves-room : (l : List ℕ) → length l ≤ 128 → length (written (given (counted cellAndFacet l))) ≤ 775
+pub halves-room : (l : List ℕ) → length l ≤ mostAround → length (written (given (counted cellAndFacet l))) ≤ 775
 halves-room l h = omega (arith, halves-length l)

@@ -19,7 +19,7 @@ use Rattle.lists.proofs.Select.{select-in, select-out}
 use Rattle.lists.proofs.Keep.{first-either, map-has}
 use Rattle.lists.proofs.Alike.{map-at}
 use Rattle.lists.proofs.Order.{select-ascends, first-least, asc-same}
-use Rattle.numbers.specs.Half.{halfOf}
+use Rattle.numbers.specs.Half.{cut, halfOf}
 use Rattle.numbers.specs.declared.Caps.{Caps}
 use Rattle.map.specs.Cells.{Map, facetsAt}
 use Rattle.map.specs.Siblings.{isHalf, Half, marksOf, sibling, border}
@@ -40,6 +40,7 @@ use Rattle.group.specs.Places.{borderIn, wantedIn, chosenIn, seekIn, pla
 use Rattle.group.proofs.Round.{sib-is, linked-read}
 use Rattle.group.proofs.Listing.{list-size}
 use Rattle.group.proofs.Grouped.{Starred, starred, Grouped, grouped, place-one}
+use Rattle.numbers.specs.Sizes.{mostAround}
 
 -- a facet that holds a mark is a facet of the cell
 facet-there : (m : Map) (c f v : ℕ) → has v (getD (facetsAt m c) f []) ≡ true → f < length (facetsAt m c)
@@ -93,8 +94,8 @@ module _ (w : List ℕ) (caps : Caps) (rows : List (List (List ℕ))) (d v : ℕ
     unfolding borderIn halfOf
     border-here =
         let local : x % 8 % 8 ≡ x % 8 = omega arith in
-        let cut : getD cells (x / 8) 0 % 65536 ≡ getD cells (x / 8) 0 = omega (arith, cell-below (x / 8) h, p .cells) in
-        rw (local, cut, sib-is w caps s p (a .settled) (halfAt cells x) (half-here .1))
+        let uncut : cut (getD cells (x / 8) 0) ≡ getD cells (x / 8) 0 = omega (arith, cell-below (x / 8) h, p .cells) in
+        rw (local, uncut, sib-is w caps s p (a .settled) (halfAt cells x) (half-here .1))
         (same-test _ _ (λ q. self-border m (halfAt cells x) (half-here .1) (eqb-true _ _ q))
         (λ b. eq-eqb _ _ (border-self m (halfAt cells x) (half-here .1) b)))
 
@@ -243,7 +244,7 @@ module _ (w : List ℕ) (caps : Caps) (rows : List (List (List ℕ))) (d v : ℕ
     own i = eqb (spot i / 8) i
 
     abbrev half : ℕ → ℕ
-    half i = halfOf (getD cells i 0 % 65536) (spot i % 8)
+    half i = halfOf (cut (getD cells i 0)) (spot i % 8)
 
     -- a place whose own cell has the anchor
     half-own : (i : ℕ) → i < n → spot i / 8 ≡ i → half i ≡ anchor m v (group m d v (getD cells i 0))
@@ -292,10 +293,10 @@ module _ (w : List ℕ) (caps : Caps) (rows : List (List (List ℕ))) (d v : ℕ
       linked-read w caps s p (a .settled) (getD cells i 0) (getD cells j 0) (cell-below i hi) (λ e. apart (place-one m d v cells n st i j hi hj e))
 
 pub anchors-gives : (w : List ℕ) (caps : Caps) (rows : List (List (List ℕ))) (d v : ℕ) (zeros cells blank lab o o′ : List ℕ) (n r : ℕ)
-    → Gives w caps 128 (AtMark caps v) (λ m. star m d v) zeros n cells → length zeros ≡ 128
-    → Labelled (linkIn w caps cells) n blank lab → length blank ≡ 128
+    → Gives w caps mostAround (AtMark caps v) (λ m. star m d v) zeros n cells → length zeros ≡ mostAround
+    → Labelled (linkIn w caps cells) n blank lab → length blank ≡ mostAround
     → Copied (anchorsIn (placeIn w caps rows v cells lab (8 * n)) cells n) o r o′
-    → Gives w caps 128 (Around caps rows v) (λ m. anchors m d v) o r o′
+    → Gives w caps mostAround (Around caps rows v) (λ m. anchors m d v) o r o′
 anchors-gives w caps rows d v zeros cells blank lab o o′ n r stars room labs space list = record {
   few = omega (arith, list .count, list-size (placeIn w caps rows v cells lab (8 * n)) cells n, stars .few);
   size = list .filled .size;
@@ -311,8 +312,8 @@ unfolding anchorsIn select
 none-listed place cells o = record { count = refl; filled = record { size = refl; wrote = λ _. refl } }
 
 pub anchors-none : (w : List ℕ) (caps : Caps) (rows : List (List (List ℕ))) (d v : ℕ) (zeros cells o : List ℕ) (n : ℕ)
-    → Gives w caps 128 (AtMark caps v) (λ m. star m d v) zeros n cells → length zeros ≡ 128 → n ≡ 0
-    → Gives w caps 128 (Around caps rows v) (λ m. anchors m d v) o 0 o
+    → Gives w caps mostAround (AtMark caps v) (λ m. star m d v) zeros n cells → length zeros ≡ mostAround → n ≡ 0
+    → Gives w caps mostAround (Around caps rows v) (λ m. anchors m d v) o 0 o
 anchors-none w caps rows d v zeros cells o n stars room e =
     anchors-gives w caps rows d v zeros cells zeros zeros o o n 0 stars room none room (rw e (none-listed _ cells o))
   where
@@ -339,7 +340,7 @@ unfolding anchors mapWith
 anchor-below caps s d v h = select-out _ (8 * caps .cells) _ (at-has (anchors (mapWith caps s) d v) 0 h) .0
 
 module _ (w : List ℕ) (caps : Caps) (rows : List (List (List ℕ))) (d v : ℕ) (zeros out : List ℕ) (n : ℕ)
-    (found : Gives w caps 128 (Around caps rows v) (λ m. anchors m d v) zeros n out) (room : length zeros ≡ 128) where
+    (found : Gives w caps mostAround (Around caps rows v) (λ m. anchors m d v) zeros n out) (room : length zeros ≡ mostAround) where
   pub first-none : n ≡ 0 → Reads w caps (Around caps rows v) (λ m. next (anchors m d v)) 0
   first-none e = record { reads = λ s p a. next-none (anchors (mapWith caps s) d v) (omega (arith, found .gives s p a .count)) }
 

@@ -12,7 +12,7 @@ use Rattle.lists.specs.Lists.{select}
 use Rattle.lists.specs.Filled.{Copied}
 use Rattle.lists.proofs.Fill.{fill-start, copy-more}
 use Rattle.lists.proofs.Select.{select-size}
-use Rattle.numbers.specs.Half.{halfOf}
+use Rattle.numbers.specs.Half.{cut, halfOf}
 use Rattle.group.specs.Places.{anchorsIn}
 
 map-more : (f : ℕ → ℕ) (l : List ℕ) (x : ℕ) → map f (l ++ (x ∷ [])) ≡ map f l ++ (f x ∷ [])
@@ -25,12 +25,12 @@ module _ (place : ℕ → ℕ) (cells o : List ℕ) where
   list-start = record { count = refl; filled = fill-start o }
 
   pub list-yes : (i k x c h : ℕ) (o′ o″ : List ℕ) → Copied (anchorsIn place cells i) o k o′ → x ≡ place i → x / 8 ≡ i → c ≡ getD cells i 0
-      → h ≡ halfOf (c % 65536) (x % 8 % 8) → o″ ≡ set o′ k h → Copied (anchorsIn place cells (i + 1)) o (k + 1) o″
+      → h ≡ halfOf (cut c) (x % 8 % 8) → o″ ≡ set o′ k h → Copied (anchorsIn place cells (i + 1)) o (k + 1) o″
   unfolding anchorsIn select
   list-yes i k x c h o′ o″ f at own cell half q =
       let yes : eqb (place i / 8) i ≡ true = rw (← at) (eq-eqb (x / 8) i own) in
       let local : x % 8 % 8 ≡ x % 8 = omega arith in
-      let here : halfOf (getD cells i 0 % 65536) (place i % 8) ≡ h = rw (← at, ← cell) (sym (half ∙ ap (halfOf (c % 65536)) local)) in
+      let here : halfOf (cut (getD cells i 0)) (place i % 8) ≡ h = rw (← at, ← cell) (sym (half ∙ ap (halfOf (cut c)) local)) in
       rw (add-one i, yes, map-more, here) (copy-more (anchorsIn place cells i) o o′ o″ k h f q)
 
   pub list-no : (i k x : ℕ) (o′ : List ℕ) → Copied (anchorsIn place cells i) o k o′ → x ≡ place i → (x / 8 ≡ i → ⊥)

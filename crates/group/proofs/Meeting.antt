@@ -9,11 +9,12 @@ use native.Mathlib.Omega.{arith}
 use borrow.Author.Tests.{eq-eqb, ne-eqb}
 use lib.ListN.{getD}
 use Rattle.lists.proofs.Bools.{clash, or-cases, or-left, or-right}
-use Rattle.numbers.specs.Half.{halfOf}
+use Rattle.numbers.specs.Half.{cut, halfOf}
 use Rattle.shapes.specs.Shapes.{facetCount}
 use Rattle.numbers.specs.declared.Caps.{Caps}
 use Rattle.store.specs.Slots.{codeIn}
 use Rattle.group.specs.Labels.{anyBelow, sibAt, meetsIn, metIn, linkedIn}
+use Rattle.numbers.specs.Sizes.{mostAround}
 
 pub below-found : (n : ℕ) (p : ℕ → Bool) (k : ℕ) → k < n → p k ≡ true → anyBelow n p ≡ true
 unfolding anyBelow
@@ -36,9 +37,9 @@ below-out (suc n) p e =
 
 -- step by step
 module _ (w : List ℕ) (caps : Caps) (start b : ℕ) where
-  pub meets-start : (h : ℕ) → h ≡ sibAt w caps start → meetsIn w caps start b 128 h ≡ metIn w caps start b
+  pub meets-start : (h : ℕ) → h ≡ sibAt w caps start → meetsIn w caps start b mostAround h ≡ metIn w caps start b
   unfolding metIn
-  meets-start h e = ap (meetsIn w caps start b 128) e
+  meets-start h e = ap (meetsIn w caps start b mostAround) e
 
   pub meets-none : (h : ℕ) → meetsIn w caps start b 0 h ≡ false
   unfolding meetsIn
@@ -78,8 +79,8 @@ module _ (w : List ℕ) (caps : Caps) (start b : ℕ) where
       met-more f g h′ e = ap (meetsIn w caps start b (left - 1)) e ∙ (sym (meets-more (left - 1) h f g) ∙ here)
 
 -- from a facet of a cell
-pub met-from : (w : List ℕ) (caps : Caps) (a b f h : ℕ) (r : Bool) → h ≡ halfOf (a % 65536) (f % 8) → r ≡ metIn w caps h b
-    → metIn w caps (halfOf (a % 65536) (f % 8)) b ≡ r
+pub met-from : (w : List ℕ) (caps : Caps) (a b f h : ℕ) (r : Bool) → h ≡ halfOf (cut a) (f % 8) → r ≡ metIn w caps h b
+    → metIn w caps (halfOf (cut a) (f % 8)) b ≡ r
 met-from w caps a b f h r e q = sym (q ∙ ap (λ (x : ℕ). metIn w caps x b) e)
 
 -- facet by facet
@@ -87,10 +88,10 @@ module _ (w : List ℕ) (caps : Caps) (a b t n : ℕ) (code : t ≡ codeIn w cap
   facets : facetCount (codeIn w caps a) ≡ n
   facets = sym (count ∙ ap facetCount code)
 
-  pub linked-found : (f : ℕ) → metIn w caps (halfOf (a % 65536) (f % 8)) b ≡ true → f < n → true ≡ linkedIn w caps a b
+  pub linked-found : (f : ℕ) → metIn w caps (halfOf (cut a) (f % 8)) b ≡ true → f < n → true ≡ linkedIn w caps a b
   unfolding linkedIn
   linked-found f e h = rw facets (sym (below-found n _ f h e))
 
-  pub linked-none : (f : ℕ) → ((k : ℕ) → k < f → metIn w caps (halfOf (a % 65536) (k % 8)) b ≡ false) → f ≡ n → false ≡ linkedIn w caps a b
+  pub linked-none : (f : ℕ) → ((k : ℕ) → k < f → metIn w caps (halfOf (cut a) (k % 8)) b ≡ false) → f ≡ n → false ≡ linkedIn w caps a b
   unfolding linkedIn
   linked-none f before e = rw facets (sym (below-none n _ (rw e at before)))

@@ -14,7 +14,7 @@ use Rattle.lists.proofs.Members.{any-at, at-any, all-at, all-get}
 use Rattle.lists.proofs.Select.{select-in, select-out}
 use Rattle.lists.proofs.Order.{select-ascends}
 use Rattle.lists.proofs.Keep.{keep-size}
-use Rattle.numbers.specs.Half.{halfOf}
+use Rattle.numbers.specs.Half.{cut, halfOf}
 use Rattle.shapes.specs.Shapes.{Shape, noShape, bar, tri, quad, tetra, shapes, shape, facetCount}
 use Rattle.shapes.proofs.Facts.{facts}
 use Rattle.numbers.specs.declared.Caps.{Caps}
@@ -36,6 +36,8 @@ use Rattle.laws.proofs.Facets.{facets-count}
 use Rattle.picture.proofs.Record.{code-read, sib-read}
 use Rattle.group.specs.Labels.{sibAt, meetsIn, metIn, linkedIn}
 use Rattle.group.proofs.Meeting.{below-found, below-out, meets-none, meets-back, meets-here, meets-more, meets-start}
+use Rattle.numbers.specs.Sizes.{mostAround}
+use Rattle.shapes.specs.Sizes.{noFacet, mostFacets}
 
 -- a half-facet has a mark
 marks-some : (m : Map) (h : ℕ) → Half m h → 0 < length (marksOf m h)
@@ -50,9 +52,9 @@ marks-some m h x =
 -- at most 128 half-facets have one set of marks: each is of a cell that holds the first mark
 halves-size : (match : ℕ → ℕ) (cells : List ℕ) → length (halvesOf match cells) ≤ length cells
 unfolding halvesOf
-halves-size match cells = rw length-map (keep-size (λ c. ltb (match c) 8) cells)
+halves-size match cells = rw length-map (keep-size (λ c. ltb (match c) noFacet) cells)
 
-siblings-few : (m : Map) → Sound m → (h : ℕ) → Half m h → length (siblings m h) ≤ 128
+siblings-few : (m : Map) → Sound m → (h : ℕ) → Half m h → length (siblings m h) ≤ mostAround
 unfolding siblings holders
 siblings-few m o h x =
     let set : List ℕ = marksOf m h in
@@ -71,7 +73,7 @@ module _ (w : List ℕ) (caps : Caps) (s : State) (p : Pic w caps s) (t : Settle
   pub sib-is : (h : ℕ) → Half m h → sibAt w caps h ≡ sibling m h
   unfolding isHalf mapWith
   sib-is h x =
-      let few : h % 8 < 6 = omega (arith, ltb-true (h % 8) (length (facetsAt m (h / 8))) (x .facet), facets-count m (h / 8), facts (m .at (h / 8) .code) .facets) in
+      let few : h % 8 < mostFacets = omega (arith, ltb-true (h % 8) (length (facetsAt m (h / 8))) (x .facet), facets-count m (h / 8), facts (m .at (h / 8) .code) .facets) in
       let below : h / 8 < caps .cells = omega (arith, x .below) in
       sib-read w caps s p h below few ∙ t .siblings h (x .facet)
 
@@ -117,7 +119,7 @@ module _ (w : List ℕ) (caps : Caps) (s : State) (p : Pic w caps s) (t : Settle
     pub met-there : metIn w caps start b ≡ true → (h : ℕ) × (h / 8 ≡ b) × Half m h × (sameSet (marksOf m start) (marksOf m h) ≡ true)
     unfolding siblings
     met-there e =
-        let r = met-walk 128 1 (meets-start w caps start b (walk m 1 start) (sym first-step) ∙ e) in
+        let r = met-walk mostAround 1 (meets-start w caps start b (walk m 1 start) (sym first-step) ∙ e) in
         let y = sharers-has m (marksOf m start) (walk m (r .0) start) (walk-has m start x (r .0)) in
         (walk m (r .0) start, r .1, y .0, y .1)
 
@@ -128,7 +130,7 @@ module _ (w : List ℕ) (caps : Caps) (s : State) (p : Pic w caps s) (t : Settle
         let few = siblings-few m (t .ready .sound) start x in
         let end : walk m (r .0) start / 8 ≡ b = ap (λ (k : ℕ). k / 8) (r .2) ∙ cell in
         sym (meets-start w caps start b (walk m 1 start) (sym first-step))
-        ∙ walk-met 128 1 (r .0) (omega arith) (moved (r .0) end) (omega (arith, r .1, few)) (r .1) end
+        ∙ walk-met mostAround 1 (r .0) (omega arith) (moved (r .0) end) (omega (arith, r .1, few)) (r .1) end
       where
         moved : (n : ℕ) → walk m n start / 8 ≡ b → 1 ≤ n
         moved zero q = absurd (apart q)
@@ -139,7 +141,7 @@ module _ (w : List ℕ) (caps : Caps) (s : State) (p : Pic w caps s) (t : Settle
     unfolding facetCount mapWith
     count-is = rw (code-read w caps s p a ha) (sym (facets-count (mapWith caps s) a))
 
-    start-is : (f : ℕ) → f < length (facetsAt m a) → halfOf (a % 65536) (f % 8) ≡ 8 * a + f
+    start-is : (f : ℕ) → f < length (facetsAt m a) → halfOf (cut a) (f % 8) ≡ 8 * a + f
     unfolding halfOf
     start-is f l = omega (arith, ha, p .cells, half-facet m a f l .3)
 
@@ -149,7 +151,7 @@ module _ (w : List ℕ) (caps : Caps) (s : State) (p : Pic w caps s) (t : Settle
       where
         there : linkedIn w caps a b ≡ true → shares m a b ≡ true
         there e =
-            let r = below-out (facetCount (codeIn w caps a)) (λ f. metIn w caps (halfOf (a % 65536) (f % 8)) b) e in
+            let r = below-out (facetCount (codeIn w caps a)) (λ f. metIn w caps (halfOf (cut a) (f % 8)) b) e in
             let less : r .0 < length (facetsAt m a) = omega (arith, r .1, count-is) in
             let half = half-facet m a (r .0) less in
             let x = half-live m (t .ready .sound) (8 * a + r .0) (half .1) in

@@ -10,13 +10,13 @@ use Rattle.lists.specs.Lists.{has, first}
 use Rattle.lists.proofs.Bools.{clash, not-false-true}
 use Rattle.lists.proofs.Order.{first-select}
 use Rattle.lists.proofs.Counts.{select-empty}
-use Rattle.numbers.specs.Half.{halfOf}
+use Rattle.numbers.specs.Half.{cut, halfOf}
 use Rattle.numbers.specs.declared.Caps.{Caps}
 use Rattle.facet.specs.Facet.{facetIn}
 use Rattle.group.specs.Labels.{sibAt}
 use Rattle.group.specs.Places.{borderIn, wantedIn, chosenIn, seekIn, placeIn}
 
-pub alone-is : (w : List ℕ) (caps : Caps) (c f x h : ℕ) → x ≡ sibAt w caps h → h ≡ halfOf (c % 65536) (f % 8)
+pub alone-is : (w : List ℕ) (caps : Caps) (c f x h : ℕ) → x ≡ sibAt w caps h → h ≡ halfOf (cut c) (f % 8)
     → eqb x h ≡ borderIn w caps c f
 unfolding borderIn
 alone-is w caps c f x h e g = rw (e, g)

@@ -5,7 +5,7 @@ use mathlib.Core.List.{List}
 use Prim.Native.Nat.{ℕ, zero, suc, _+_, _/_, _%_, _<_, _≤_}
 use lib.Dec.{eqb}
 use lib.ListN.{getD, length}
-use Rattle.numbers.specs.Half.{halfOf}
+use Rattle.numbers.specs.Half.{cut, halfOf}
 use Rattle.shapes.specs.Shapes.{facetCount}
 use Rattle.numbers.specs.declared.Caps.{Caps}
 use Rattle.store.specs.Fields.{Sib}
@@ -32,7 +32,7 @@ metIn w caps start b = meetsIn w caps start b mostAround (sibAt w caps start)
 
 -- cell b is met from a facet of cell a
 unfoldable pub linkedIn : List ℕ → Caps → ℕ → ℕ → Bool
-linkedIn w caps a b = anyBelow (facetCount (codeIn w caps a)) (λ f. metIn w caps (halfOf (a % 65536) (f % 8)) b)
+linkedIn w caps a b = anyBelow (facetCount (codeIn w caps a)) (λ f. metIn w caps (halfOf (cut a) (f % 8)) b)
 
 -- so two places of a list of cells are linked
 unfoldable pub linkIn : List ℕ → Caps → List ℕ → ℕ → ℕ → Bool

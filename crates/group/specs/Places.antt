@@ -6,14 +6,14 @@ use Prim.Native.Nat.{ℕ, _+_, _/_, _%_, _<_}
 use lib.Dec.{eqb, ltb}
 use lib.ListN.{getD}
 use Rattle.lists.specs.Lists.{has, select, first}
-use Rattle.numbers.specs.Half.{halfOf}
+use Rattle.numbers.specs.Half.{cut, halfOf}
 use Rattle.numbers.specs.declared.Caps.{Caps}
 use Rattle.facet.specs.Facet.{facetIn}
 use Rattle.group.specs.Labels.{sibAt}
 
 -- the stored sibling of a cell's facet is that half-facet
 unfoldable pub borderIn : List ℕ → Caps → ℕ → ℕ → Bool
-borderIn w caps c f = eqb (sibAt w caps (halfOf (c % 65536) (f % 8))) (halfOf (c % 65536) (f % 8))
+borderIn w caps c f = eqb (sibAt w caps (halfOf (cut c) (f % 8))) (halfOf (cut c) (f % 8))
 
 -- the half-facet is a border, where only those are asked for
 unfoldable pub wantedIn : List ℕ → Caps → ℕ → ℕ → Bool → Bool
@@ -46,4 +46,4 @@ pub record Recalled (place : ℕ → ℕ) (lab : List ℕ) (i : ℕ) (kept : Lis
 
 -- the anchors, each at the place of its own cell
 unfoldable pub anchorsIn : (ℕ → ℕ) → List ℕ → ℕ → List ℕ
-anchorsIn place cells n = map (λ i. halfOf (getD cells i 0 % 65536) (place i % 8)) (select (λ i. eqb (place i / 8) i) n)
+anchorsIn place cells n = map (λ i. halfOf (cut (getD cells i 0)) (place i % 8)) (select (λ i. eqb (place i / 8) i) n)

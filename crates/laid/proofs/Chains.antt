@@ -23,6 +23,7 @@ use Rattle.chain.specs.Chain.{Linked}
 use Rattle.chain.proofs.Nexts.{None, First, firstFrom, from-none, from-first, none-from, first-from, from-full, select-gap, select-first}
 use Rattle.chain.proofs.Places.{head-word, count-word, link-word, link-says, corner-there}
 use Rattle.laid.specs.Laid.{linkBehind, stands, goes, meetsFrom, chainRight, meets}
+use Rattle.numbers.specs.Sizes.{mostAround}
 
 -- one more passes where the first from low on does
 first-more : (p : ℕ → Bool) (low hi d n : ℕ) → First p low hi d → n ≡ length (select p low) → suc n ≡ length (select p (suc d))
@@ -93,9 +94,9 @@ module _ (w : List ℕ) (caps : Caps) (v : ℕ) where
   goes-few (suc k) zero low n e = omega (arith, eqb-true (read w caps (InMark v field.Held)) n e)
   goes-few (suc k) (suc at) low n e = omega (arith, goes-few k (linkBehind w caps at) (suc (at / 8)) (suc n) (then-goes k at low n e))
 
-  pub chain-few : chainRight w caps v ≡ true → read w caps (InMark v field.Held) ≤ 128
+  pub chain-few : chainRight w caps v ≡ true → read w caps (InMark v field.Held) ≤ mostAround
   unfolding chainRight
-  chain-few e = goes-few 128 (read w caps (InMark v field.First)) 0 0 e
+  chain-few e = goes-few mostAround (read w caps (InMark v field.First)) 0 0 e
 
   -- where a link is the end, the count is what was passed
   goes-end : (k low n : ℕ) → goes w caps v k 0 low n ≡ true → read w caps (InMark v field.Held) ≡ n
@@ -212,17 +213,17 @@ module _ (w : List ℕ) (caps : Caps) (v : ℕ) where
     module _ (e : chainRight w caps v ≡ true) (f : (x : ℕ) → x < caps .cells → s .chain v x ≡ true → meets w caps x v ≡ true) where
       pub head-right : read w caps (InMark v field.First) ≡ link caps s v 0
       unfolding chainRight meets
-      head-right = link-is 128 (read w caps (InMark v field.First)) 0 0 e (λ x a b t. f x b t)
+      head-right = link-is mostAround (read w caps (InMark v field.First)) 0 0 e (λ x a b t. f x b t)
 
       pub count-right : read w caps (InMark v field.Held) ≡ length (chainOf caps s v)
       unfolding chainRight meets chainOf select
-      count-right = count-is 128 (read w caps (InMark v field.First)) 0 0 e (λ x a b t. f x b t) (omega arith) refl
+      count-right = count-is mostAround (read w caps (InMark v field.First)) 0 0 e (λ x a b t. f x b t) (omega arith) refl
 
       pub behind-right : (c j : ℕ) → c < caps .cells → j < length (s .at c .marks) → getD (s .at c .marks) j 0 ≡ v
           → read w caps (InCell c (field.Link j)) ≡ link caps s v (suc c)
       unfolding chainRight meets
       behind-right c j b h q =
-          behind-is 128 (read w caps (InMark v field.First)) 0 0 c j e (λ x a b t. f x b t) (f c b (place-chain c j h q)) h q
+          behind-is mostAround (read w caps (InMark v field.First)) 0 0 c j e (λ x a b t. f x b t) (f c b (place-chain c j h q)) h q
 
   -- the other way: on the picture of a state whose chains are linked
   module _ (s : State) (p : Pic w caps s) (l : Linked caps s) (h : v < caps .marks)
@@ -303,9 +304,9 @@ module _ (w : List ℕ) (caps : Caps) (v : ℕ) where
     pub right-chain : chainRight w caps v ≡ true
     unfolding chainRight link ahead chainOf select
     right-chain =
-        rw (head-word w caps s p v h) (goes-on 128 0 0 (omega arith) refl (l .few v) (firstFrom (s .chain v) (caps .cells) 0) refl)
+        rw (head-word w caps s p v h) (goes-on mostAround 0 0 (omega arith) refl (l .few v) (firstFrom (s .chain v) (caps .cells) 0) refl)
 
     pub right-meets : (c : ℕ) → c < caps .cells → s .chain v c ≡ true → meets w caps c v ≡ true
     unfolding meets link ahead chainOf select
     right-meets c b t =
-        rw (head-word w caps s p v h) (meets-on 128 0 0 c (omega arith) b t refl (l .few v) (firstFrom (s .chain v) (caps .cells) 0) refl)
+        rw (head-word w caps s p v h) (meets-on mostAround 0 0 c (omega arith) b t refl (l .few v) (firstFrom (s .chain v) (caps .cells) 0) refl)

@@ -18,15 +18,17 @@ use Rattle.shapes.specs.Shapes.{shape, facetCount}
 use Rattle.shapes.proofs.Facts.{facts}
 use Rattle.numbers.specs.declared.Caps.{Caps}
 use Rattle.numbers.specs.Sizes.{mostCapacity}
-use Rattle.store.specs.Layout.{magic, room, nearAt, farAt}
+use Rattle.store.specs.Layout.{nearMarks, magic, room, nearAt, farAt}
 use Rattle.store.specs.Fields.{Magic, MarkCap, CellCap, Near, Sib, Link, Far}
 use Rattle.store.specs.Slots.{InCell, read, codeIn, cornerIn, marksAt}
 use Rattle.store.specs.Open.{headIn}
 use Rattle.store.specs.Rests.{headBlank, markBlank, cellBlank}
-use Rattle.store.proofs.Writes.{corner-near, marks-near, marks-far}
+use Rattle.store.proofs.Marks.{corner-near, marks-fit}
 use Rattle.facet.specs.Facet.{marksIn}
 use Rattle.laid.specs.Laid.{typed, fine, bare, farMark, cornerRight, facetRight, recordRight, chainRight, meets, markRight, cellRight, laidIn}
 use Rattle.laid.proofs.Steps.{bare-behind}
+use Rattle.numbers.specs.Half.{cut}
+use Rattle.shapes.specs.Sizes.{mostFacets, mostMarks}
 
 -- the head gives these capacities, and their room fits
 pub record Headed (w : List ℕ) (caps : Caps) : Type 0 where
@@ -36,15 +38,6 @@ pub record Headed (w : List ℕ) (caps : Caps) : Type 0 where
   pub marks-few : caps .marks ≤ mostCapacity
   pub cells-few : caps .cells ≤ mostCapacity
   pub fits : room (caps .marks) (caps .cells) ≤ length w
-
--- the marks of a cell lie in memory, in either part
-marks-fit : (w : List ℕ) (caps : Caps) (c n : ℕ) → room (caps .marks) (caps .cells) ≤ length w → c < caps .cells → n ≤ 8 → marksAt caps c n + n ≤ length w
-unfolding nearAt farAt room
-marks-fit w caps c n fits h few = go (decLt 4 n)
-  where
-    go : Dec (4 < n) → marksAt caps c n + n ≤ length w
-    go (yes m) = omega (arith, marks-far caps c n m)
-    go (no m) = omega (arith, marks-near caps c n (omega arith))
 
 module _ (w : List ℕ) (caps : Caps) (hd : Headed w caps) (laid : laidIn w caps ≡ true) where
   pub head-passes : headBlank w caps ≡ true
@@ -86,37 +79,37 @@ module _ (w : List ℕ) (caps : Caps) (hd : Headed w caps) (laid : laidIn w caps
     typed-passes = and-left (typed (codeIn w caps c)) _ record-passes
 
     behind-type : fine caps (marksIn w caps c)
-        && (every 8 (cornerRight w caps c (marksIn w caps c)) && (every 6 (facetRight w caps c (facetCount (codeIn w caps c))) && cellBlank w caps c)) ≡ true
+        && (every mostMarks (cornerRight w caps c (marksIn w caps c)) && (every mostFacets (facetRight w caps c (facetCount (codeIn w caps c))) && cellBlank w caps c)) ≡ true
     unfolding recordRight
     behind-type = and-right (typed (codeIn w caps c)) _ record-passes
 
     fine-passes : fine caps (marksIn w caps c) ≡ true
     fine-passes = and-left (fine caps (marksIn w caps c)) _ behind-type
 
-    behind-marks : every 8 (cornerRight w caps c (marksIn w caps c)) && (every 6 (facetRight w caps c (facetCount (codeIn w caps c))) && cellBlank w caps c) ≡ true
+    behind-marks : every mostMarks (cornerRight w caps c (marksIn w caps c)) && (every mostFacets (facetRight w caps c (facetCount (codeIn w caps c))) && cellBlank w caps c) ≡ true
     behind-marks = and-right (fine caps (marksIn w caps c)) _ behind-type
 
-    corner-passes : (k : ℕ) → k < 8 → cornerRight w caps c (marksIn w caps c) k ≡ true
+    corner-passes : (k : ℕ) → k < mostMarks → cornerRight w caps c (marksIn w caps c) k ≡ true
     corner-passes k less =
-        every-at (cornerRight w caps c (marksIn w caps c)) 8 (and-left (every 8 (cornerRight w caps c (marksIn w caps c))) _ behind-marks) k less
+        every-at (cornerRight w caps c (marksIn w caps c)) mostMarks (and-left (every mostMarks (cornerRight w caps c (marksIn w caps c))) _ behind-marks) k less
 
-    behind-corners : every 6 (facetRight w caps c (facetCount (codeIn w caps c))) && cellBlank w caps c ≡ true
-    behind-corners = and-right (every 8 (cornerRight w caps c (marksIn w caps c))) _ behind-marks
+    behind-corners : every mostFacets (facetRight w caps c (facetCount (codeIn w caps c))) && cellBlank w caps c ≡ true
+    behind-corners = and-right (every mostMarks (cornerRight w caps c (marksIn w caps c))) _ behind-marks
 
-    facet-passes : (f : ℕ) → f < 6 → facetRight w caps c (facetCount (codeIn w caps c)) f ≡ true
+    facet-passes : (f : ℕ) → f < mostFacets → facetRight w caps c (facetCount (codeIn w caps c)) f ≡ true
     facet-passes f less =
-        every-at (facetRight w caps c (facetCount (codeIn w caps c))) 6
-        (and-left (every 6 (facetRight w caps c (facetCount (codeIn w caps c)))) _ behind-corners) f less
+        every-at (facetRight w caps c (facetCount (codeIn w caps c))) mostFacets
+        (and-left (every mostFacets (facetRight w caps c (facetCount (codeIn w caps c)))) _ behind-corners) f less
 
     pub cell-rests : cellBlank w caps c ≡ true
-    cell-rests = and-right (every 6 (facetRight w caps c (facetCount (codeIn w caps c)))) _ behind-corners
+    cell-rests = and-right (every mostFacets (facetRight w caps c (facetCount (codeIn w caps c)))) _ behind-corners
 
     -- as many marks as the type has, each of the mesh, none twice
     pub marks-length : length (marksIn w caps c) ≡ shape (codeIn w caps c) .marks
     unfolding marksIn
     marks-length =
         part-length w (marksAt caps c (shape (codeIn w caps c) .marks)) (shape (codeIn w caps c) .marks)
-        (marks-fit w caps c (shape (codeIn w caps c) .marks) (hd .fits) h (facts (codeIn w caps c) .marks))
+        (omega (arith, marks-fit caps c (shape (codeIn w caps c) .marks) h (facts (codeIn w caps c) .marks), hd .fits))
 
     pub marks-inside : (v : ℕ) → has v (marksIn w caps c) ≡ true → v < caps .marks
     unfolding fine
@@ -134,33 +127,33 @@ module _ (w : List ℕ) (caps : Caps) (hd : Headed w caps) (laid : laidIn w caps
     marks-once = not-false-true _ (and-right (not (any (leb (caps .marks)) (marksIn w caps c))) _ fine-passes)
 
     -- the corners: the mark in either part, and no link behind the marks
-    pub near-word : (k : ℕ) → k < 4 → read w caps (InCell c (Near k)) ≡ getD (marksIn w caps c) k 0
+    pub near-word : (k : ℕ) → k < nearMarks → read w caps (InCell c (Near k)) ≡ getD (marksIn w caps c) k 0
     unfolding cornerRight
     near-word k less =
         sym (corner-near w caps c k less)
         ∙ eqb-true (cornerIn w caps c k) (getD (marksIn w caps c) k 0)
         (and-left (eqb (cornerIn w caps c k) (getD (marksIn w caps c) k 0)) _ (corner-passes k (omega arith)))
 
-    behind-near : (k : ℕ) → k < 8
+    behind-near : (k : ℕ) → k < mostMarks
         → eqb (read w caps (InCell c (Far k))) (farMark (marksIn w caps c) k) && bare (length (marksIn w caps c)) k (read w caps (InCell c (Link k))) ≡ true
     unfolding cornerRight
     behind-near k less = and-right (eqb (cornerIn w caps c k) (getD (marksIn w caps c) k 0)) _ (corner-passes k less)
 
-    pub far-word : (k : ℕ) → k < 8 → read w caps (InCell c (Far k)) ≡ farMark (marksIn w caps c) k
+    pub far-word : (k : ℕ) → k < mostMarks → read w caps (InCell c (Far k)) ≡ farMark (marksIn w caps c) k
     far-word k less =
         eqb-true (read w caps (InCell c (Far k))) (farMark (marksIn w caps c) k)
         (and-left (eqb (read w caps (InCell c (Far k))) (farMark (marksIn w caps c) k)) _ (behind-near k less))
 
-    pub behind-links : (k : ℕ) → length (marksIn w caps c) ≤ k → k < 8 → read w caps (InCell c (Link k)) ≡ 0
+    pub behind-links : (k : ℕ) → length (marksIn w caps c) ≤ k → k < mostMarks → read w caps (InCell c (Link k)) ≡ 0
     behind-links k low less =
         eqb-true (read w caps (InCell c (Link k))) 0
         (sym (bare-behind (length (marksIn w caps c)) k (read w caps (InCell c (Link k))) low)
         ∙ and-right (eqb (read w caps (InCell c (Far k))) (farMark (marksIn w caps c) k)) _ (behind-near k less))
 
     -- no sibling stands behind the facets
-    pub behind-facets : (f : ℕ) → facetCount (codeIn w caps c) ≤ f → f < 6 → read w caps (InCell c (Sib f)) ≡ 0
+    pub behind-facets : (f : ℕ) → facetCount (codeIn w caps c) ≤ f → f < mostFacets → read w caps (InCell c (Sib f)) ≡ 0
     unfolding facetRight
     behind-facets f low less =
-        let same : c % 65536 ≡ c = omega (arith, hd .cells-few) in
+        let same : cut c ≡ c = omega (arith, hd .cells-few) in
         eqb-true (read w caps (InCell c (Sib f))) 0
         (sym (bare-behind (facetCount (codeIn w caps c)) f (read w caps (InCell c (Sib f))) low) ∙ rw same at (facet-passes f less))

@@ -33,6 +33,8 @@ use Rattle.laid.specs.Upright.{Upright}
 use Rattle.laid.proofs.Steps.{bare-before, bare-behind}
 use Rattle.laid.proofs.Chains.{right-chain, right-meets}
 use Rattle.laid.proofs.Uprights.{upright-linked, ready-upright}
+use Rattle.numbers.specs.Half.{cut}
+use Rattle.shapes.specs.Sizes.{mostFacets, mostMarks}
 
 -- the marks of a cell by the records, on the picture of a state
 pub marks-is : (w : List ℕ) (caps : Caps) (s : State) → Pic w caps s → (c : ℕ) → c < caps .cells → length (s .at c .marks) ≡ shape (s .at c .code) .marks
@@ -41,7 +43,7 @@ unfolding marksIn
 marks-is w caps s p c h fits = rw (code-read w caps s p c h, ← fits) (marks-read w caps s p c h (omega (arith, fits, facts (s .at c .code) .marks)))
 
 module _ (w : List ℕ) (caps : Caps) (s : State) (p : Pic w caps s) (u : Upright caps s)
-    (sibs : (c f : ℕ) → facetCount (s .at c .code) ≤ f → f < 6 → s .sib (8 * c + f) ≡ 0) where
+    (sibs : (c f : ℕ) → facetCount (s .at c .code) ≤ f → f < mostFacets → s .sib (8 * c + f) ≡ 0) where
   told : (c : ℕ) → c < caps .cells → s .at c .marks ≡ marksIn w caps c
   told c h = sym (marks-is w caps s p c h (u .fitting c))
 
@@ -73,7 +75,7 @@ module _ (w : List ℕ) (caps : Caps) (s : State) (p : Pic w caps s) (u : Uprigh
         (not-of-false _ (has-none (leb (caps .marks)) (s .at c .marks) (λ v t. lt-leb (caps .marks) v (u .inside v c t))))
         (not-of-false _ (u .distinct c))
 
-    right-link : (k : ℕ) → k < 8 → bare (length (s .at c .marks)) k (read w caps (InCell c (Link k))) ≡ true
+    right-link : (k : ℕ) → k < mostMarks → bare (length (s .at c .marks)) k (read w caps (InCell c (Link k))) ≡ true
     unfolding wordOf cellWord linkWord
     right-link k less = go (decLt k (length (s .at c .marks)))
       where
@@ -84,7 +86,7 @@ module _ (w : List ℕ) (caps : Caps) (s : State) (p : Pic w caps s) (u : Uprigh
             ∙ eq-eqb (read w caps (InCell c (Link k))) 0
             (p .words (InCell c (Link k)) (h, less) ∙ rw (le-ltb k (length (s .at c .marks)) (omega arith)))
 
-    right-corner : (k : ℕ) → k < 8 → cornerRight w caps c (s .at c .marks) k ≡ true
+    right-corner : (k : ℕ) → k < mostMarks → cornerRight w caps c (s .at c .marks) k ≡ true
     unfolding cornerRight farMark wordOf cellWord corner
     right-corner k less =
         and-both (eqb (cornerIn w caps c k) (getD (s .at c .marks) k 0)) _
@@ -93,9 +95,9 @@ module _ (w : List ℕ) (caps : Caps) (s : State) (p : Pic w caps s) (u : Uprigh
         (eq-eqb (read w caps (InCell c (Far k))) (farMark (s .at c .marks) k) (p .words (InCell c (Far k)) (h, less)))
         (right-link k less))
 
-    right-facet : (f : ℕ) → f < 6 → facetRight w caps c (facetCount (s .at c .code)) f ≡ true
+    right-facet : (f : ℕ) → f < mostFacets → facetRight w caps c (facetCount (s .at c .code)) f ≡ true
     unfolding facetRight wordOf cellWord
-    right-facet f less = let same : c % 65536 ≡ c = omega (arith, p .cells) in rw same (go (decLt f (facetCount (s .at c .code))))
+    right-facet f less = let same : cut c ≡ c = omega (arith, p .cells) in rw same (go (decLt f (facetCount (s .at c .code))))
       where
         go : Dec (f < facetCount (s .at c .code)) → bare (facetCount (s .at c .code)) f (read w caps (InCell c (Sib f))) ≡ true
         go (yes a) = bare-before (facetCount (s .at c .code)) f (read w caps (InCell c (Sib f))) a
@@ -109,9 +111,9 @@ module _ (w : List ℕ) (caps : Caps) (s : State) (p : Pic w caps s) (u : Uprigh
         and-both (typed (codeIn w caps c)) _ right-typed
         (rw (← told c h, code-read w caps s p c h)
         (and-both (fine caps (s .at c .marks)) _ right-fine
-        (and-both (every 8 (cornerRight w caps c (s .at c .marks))) _ (at-every (cornerRight w caps c (s .at c .marks)) 8 right-corner)
-        (and-both (every 6 (facetRight w caps c (facetCount (s .at c .code)))) _
-        (at-every (facetRight w caps c (facetCount (s .at c .code))) 6 right-facet)
+        (and-both (every mostMarks (cornerRight w caps c (s .at c .marks))) _ (at-every (cornerRight w caps c (s .at c .marks)) mostMarks right-corner)
+        (and-both (every mostFacets (facetRight w caps c (facetCount (s .at c .code)))) _
+        (at-every (facetRight w caps c (facetCount (s .at c .code))) mostFacets right-facet)
         (rest-cell w caps c (λ q fits. p .words (InCell c (CellRest q)) (h, fits)))))))
 
     right-cell : cellRight w caps c ≡ true
@@ -130,7 +132,7 @@ module _ (w : List ℕ) (caps : Caps) (s : State) (p : Pic w caps s) (u : Uprigh
       (at-every (cellRight w caps) (caps .cells) right-cell))
 
 -- behind the facets of a cell there is no half-facet, so no sibling
-facet-none : (m : Map) (c f : ℕ) → facetCount (m .at c .code) ≤ f → f < 6 → stateOf m .sib (8 * c + f) ≡ 0
+facet-none : (m : Map) (c f : ℕ) → facetCount (m .at c .code) ≤ f → f < mostFacets → stateOf m .sib (8 * c + f) ≡ 0
 unfolding stateOf isHalf facetCount
 facet-none m c f low less =
     let a : (8 * c + f) / 8 ≡ c = omega arith in

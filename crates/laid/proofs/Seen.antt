@@ -24,6 +24,9 @@ use Rattle.laid.specs.Laid.{farMark, meets, laidIn}
 use Rattle.laid.proofs.Chains.{chain-few, head-right, count-right, behind-right}
 pub use Rattle.laid.proofs.Records.{Headed, behind-facets}
 use Rattle.laid.proofs.Records.{head-passes, mark-rests, mark-chain, chain-meets, cell-rests, marks-inside, marks-once, near-word, far-word, behind-links}
+use Rattle.numbers.specs.Sizes.{mostAround}
+use Rattle.shapes.specs.Sizes.{mostFacets, mostMarks}
+use Rattle.store.specs.Layout.{nearMarks}
 
 -- the cell that a record gives; none past the capacity
 unfoldable pub bodySeen : List ℕ → Caps → ℕ → Body
@@ -77,7 +80,7 @@ module _ (w : List ℕ) (caps : Caps) (hd : Headed w caps) (laid : laidIn w caps
     count-seen : read w caps (InMark v Held) ≡ length (chainOf caps (seen w caps) v)
     count-seen = count-right w caps v (seen w caps) marks-seen seen-once chained (mark-chain w caps hd laid v h) holders-meet
 
-    pub few-seen : length (chainOf caps (seen w caps) v) ≤ 128
+    pub few-seen : length (chainOf caps (seen w caps) v) ≤ mostAround
     few-seen = omega (arith, count-seen, chain-few w caps v (mark-chain w caps hd laid v h))
 
     behind-seen : (c j : ℕ) → c < caps .cells → j < length (seen w caps .at c .marks) → getD (seen w caps .at c .marks) j 0 ≡ v
@@ -90,22 +93,22 @@ module _ (w : List ℕ) (caps : Caps) (hd : Headed w caps) (laid : laidIn w caps
     unfolding seen
     code-seen = sym (ap (λ (b : Body). b .code) (body-here w caps c h))
 
-    near-seen : (k : ℕ) → k < 4 → read w caps (InCell c (Near k)) ≡ corner (seen w caps) c k
+    near-seen : (k : ℕ) → k < nearMarks → read w caps (InCell c (Near k)) ≡ corner (seen w caps) c k
     unfolding corner
     near-seen k less = near-word w caps hd laid c h k less ∙ ap (λ (l : List ℕ). getD l k 0) (sym (marks-seen c h))
 
-    far-seen : (k : ℕ) → k < 8 → read w caps (InCell c (Far k)) ≡ cond (ltb 4 (length (seen w caps .at c .marks))) (corner (seen w caps) c k) 0
+    far-seen : (k : ℕ) → k < mostMarks → read w caps (InCell c (Far k)) ≡ cond (ltb nearMarks (length (seen w caps .at c .marks))) (corner (seen w caps) c k) 0
     unfolding corner farMark
-    far-seen k less = far-word w caps hd laid c h k less ∙ ap (λ (l : List ℕ). cond (ltb 4 (length l)) (getD l k 0) 0) (sym (marks-seen c h))
+    far-seen k less = far-word w caps hd laid c h k less ∙ ap (λ (l : List ℕ). cond (ltb nearMarks (length l)) (getD l k 0) 0) (sym (marks-seen c h))
 
-    sib-seen : (f : ℕ) → f < 6 → read w caps (InCell c (Sib f)) ≡ seen w caps .sib (8 * c + f)
+    sib-seen : (f : ℕ) → f < mostFacets → read w caps (InCell c (Sib f)) ≡ seen w caps .sib (8 * c + f)
     unfolding seen
     sib-seen f less =
         let a : (8 * c + f) / 8 ≡ c = omega arith in
         let b : (8 * c + f) % 8 ≡ f = omega arith in
         rw (a, b)
 
-    link-seen : (k : ℕ) → k < 8 → read w caps (InCell c (Link k)) ≡ linkWord caps (seen w caps) c k
+    link-seen : (k : ℕ) → k < mostMarks → read w caps (InCell c (Link k)) ≡ linkWord caps (seen w caps) c k
     unfolding corner linkWord
     link-seen k less = go (decLt k (length (seen w caps .at c .marks)))
       where

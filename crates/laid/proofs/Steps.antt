@@ -11,13 +11,15 @@ use lib.ListN.{getD, length}
 use Rattle.lists.specs.Lists.{every}
 use Rattle.lists.proofs.Bools.{and-no, and-yes}
 use Rattle.lists.proofs.Every.{every-at, at-every, every-more, every-stop}
-use Rattle.numbers.specs.Half.{halfOf}
+use Rattle.numbers.specs.Half.{cut, halfOf}
 use Rattle.numbers.specs.declared.Caps.{Caps}
 use Rattle.shapes.specs.Sizes.{mostFacets}
 use Rattle.store.specs.Fields.{First, Held, Sib, Link, Far}
 use Rattle.store.specs.Slots.{InMark, InCell, read, cornerIn}
 use Rattle.facet.specs.Facet.{marksIn}
 use Rattle.laid.specs.Laid.{bare, farMark, cornerRight, facetRight, linkBehind, stands, goes, meetsFrom, chainRight, meets}
+use Rattle.numbers.specs.Sizes.{mostAround}
+use Rattle.store.specs.Layout.{nearMarks}
 
 -- a word of a kind: before the nth any, from the nth on 0
 pub bare-before : (n k x : ℕ) → k < n → bare n k x ≡ true
@@ -30,13 +32,13 @@ bare-behind n k x h = rw (le-ltb k n h)
 
 -- marks in the second part
 module _ (marks : List ℕ) (k : ℕ) where
-  pub far-none : length marks ≤ 4 → farMark marks k ≡ 0
+  pub far-none : length marks ≤ nearMarks → farMark marks k ≡ 0
   unfolding farMark
-  far-none h = rw (le-ltb 4 (length marks) h)
+  far-none h = rw (le-ltb nearMarks (length marks) h)
 
-  pub far-all : 4 < length marks → farMark marks k ≡ getD marks k 0
+  pub far-all : nearMarks < length marks → farMark marks k ≡ getD marks k 0
   unfolding farMark
-  far-all h = rw (lt-ltb 4 (length marks) h)
+  far-all h = rw (lt-ltb nearMarks (length marks) h)
 
 -- the tests of a corner, one after another
 module _ (w : List ℕ) (caps : Caps) (c k : ℕ) (marks : List ℕ) (v x : ℕ) (corner : v ≡ cornerIn w caps c k) (mark : x ≡ getD marks k 0) where
@@ -67,17 +69,17 @@ module _ (w : List ℕ) (caps : Caps) (c k : ℕ) (marks : List ℕ) (v x : ℕ)
 module _ (w : List ℕ) (caps : Caps) (c n : ℕ) where
   pub facets-start : every n (facetRight w caps c n) ≡ true
   unfolding facetRight
-  facets-start = at-every (facetRight w caps c n) n (λ f h. bare-before n f (read w caps (InCell (c % 65536) (Sib f))) h)
+  facets-start = at-every (facetRight w caps c n) n (λ f h. bare-before n f (read w caps (InCell (cut c) (Sib f))) h)
 
   -- the stored sibling as it is read
-  module _ (f h x : ℕ) (low : n ≤ f) (less : f < mostFacets) (half : h ≡ halfOf (c % 65536) (f % 8)) (sib : x ≡ read w caps (InCell (h / 8) (Sib (h % 8)))) where
+  module _ (f h x : ℕ) (low : n ≤ f) (less : f < mostFacets) (half : h ≡ halfOf (cut c) (f % 8)) (sib : x ≡ read w caps (InCell (h / 8) (Sib (h % 8)))) where
     facet-read : facetRight w caps c n f ≡ eqb x 0
     unfolding facetRight halfOf
     facet-read =
-        let a : h / 8 ≡ c % 65536 = omega arith in
+        let a : h / 8 ≡ cut c = omega arith in
         let b : h % 8 ≡ f = omega arith in
-        let same : x ≡ read w caps (InCell (c % 65536) (Sib f)) = rw (a, b) at sib in
-        bare-behind n f (read w caps (InCell (c % 65536) (Sib f))) low ∙ ap (λ (y : ℕ). eqb y 0) (sym same)
+        let same : x ≡ read w caps (InCell (cut c) (Sib f)) = rw (a, b) at sib in
+        bare-behind n f (read w caps (InCell (cut c) (Sib f))) low ∙ ap (λ (y : ℕ). eqb y 0) (sym same)
 
     pub facets-stop : (x ≡ 0 → ⊥) → false ≡ every mostFacets (facetRight w caps c n)
     facets-stop g = every-stop (facetRight w caps c n) mostFacets f less (facet-read ∙ ne-eqb x 0 g)
@@ -113,11 +115,11 @@ module _ (w : List ℕ) (caps : Caps) (v low c k : ℕ) where
 -- the walk that looks for a cell: the answer is that of the rest
 module _ (w : List ℕ) (caps : Caps) (c first : ℕ) where
   abbrev pub Looking : ℕ → ℕ → Type 0
-  Looking n link = meetsFrom w caps c 128 first ≡ meetsFrom w caps c (128 - n) link
+  Looking n link = meetsFrom w caps c mostAround first ≡ meetsFrom w caps c (mostAround - n) link
 
-  pub look-none : (n link : ℕ) → Looking n link → link ≡ 0 → false ≡ meetsFrom w caps c 128 first
+  pub look-none : (n link : ℕ) → Looking n link → link ≡ 0 → false ≡ meetsFrom w caps c mostAround first
   unfolding meetsFrom
-  look-none n link e z = sym (e ∙ go (128 - n) link z)
+  look-none n link e z = sym (e ∙ go (mostAround - n) link z)
     where
       go : (k link : ℕ) → link ≡ 0 → meetsFrom w caps c k link ≡ false
       go zero link z = refl
@@ -125,34 +127,34 @@ module _ (w : List ℕ) (caps : Caps) (c first : ℕ) where
       go (suc k) (suc at) z = absurd (omega arith)
 
   -- one cell of the chain
-  look-one : (n link at : ℕ) → n < 128 → link ≡ suc at
-      → meetsFrom w caps c (128 - n) link ≡ eqb (at / 8) c || meetsFrom w caps c (128 - (n + 1)) (linkBehind w caps at)
+  look-one : (n link at : ℕ) → n < mostAround → link ≡ suc at
+      → meetsFrom w caps c (mostAround - n) link ≡ eqb (at / 8) c || meetsFrom w caps c (mostAround - (n + 1)) (linkBehind w caps at)
   unfolding meetsFrom
   look-one n link at h l =
-      let k : 128 - n ≡ suc (128 - (n + 1)) = omega arith in
-      ap (λ (i : ℕ). meetsFrom w caps c i link) k ∙ ap (meetsFrom w caps c (suc (128 - (n + 1)))) l
+      let k : mostAround - n ≡ suc (mostAround - (n + 1)) = omega arith in
+      ap (λ (i : ℕ). meetsFrom w caps c i link) k ∙ ap (meetsFrom w caps c (suc (mostAround - (n + 1)))) l
 
-  pub look-here : (n link at : ℕ) → Looking n link → n < 128 → link ≡ suc at → at / 8 ≡ c → true ≡ meetsFrom w caps c 128 first
+  pub look-here : (n link at : ℕ) → Looking n link → n < mostAround → link ≡ suc at → at / 8 ≡ c → true ≡ meetsFrom w caps c mostAround first
   look-here n link at e h l z = sym (e ∙ (look-one n link at h l ∙ rw (eq-eqb (at / 8) c z)))
 
-  pub look-more : (n link at x : ℕ) → Looking n link → n < 128 → link ≡ suc at → (at / 8 ≡ c → ⊥) → x ≡ read w caps (InCell (at / 8) (Link (at % 8)))
+  pub look-more : (n link at x : ℕ) → Looking n link → n < mostAround → link ≡ suc at → (at / 8 ≡ c → ⊥) → x ≡ read w caps (InCell (at / 8) (Link (at % 8)))
       → Looking (n + 1) x
   unfolding linkBehind
   look-more n link at x e h l g q = e ∙ (look-one n link at h l ∙ rw (ne-eqb (at / 8) c g, q))
 
-  pub look-full : (n link : ℕ) → Looking n link → 128 ≤ n → false ≡ meetsFrom w caps c 128 first
+  pub look-full : (n link : ℕ) → Looking n link → mostAround ≤ n → false ≡ meetsFrom w caps c mostAround first
   unfolding meetsFrom
-  look-full n link e h = let k : 128 - n ≡ 0 = omega arith in sym (e ∙ ap (λ (i : ℕ). meetsFrom w caps c i link) k)
+  look-full n link e h = let k : mostAround - n ≡ 0 = omega arith in sym (e ∙ ap (λ (i : ℕ). meetsFrom w caps c i link) k)
 
 -- as it begins at a mark
-pub looked : (w : List ℕ) (caps : Caps) (c v first : ℕ) (r : Bool) → first ≡ read w caps (InMark v First) → r ≡ meetsFrom w caps c 128 first → r ≡ meets w caps c v
+pub looked : (w : List ℕ) (caps : Caps) (c v first : ℕ) (r : Bool) → first ≡ read w caps (InMark v First) → r ≡ meetsFrom w caps c mostAround first → r ≡ meets w caps c v
 unfolding meets
 looked w caps c v first r e q = rw (← e) q
 
 -- the walk that holds a chain to the rules: the answer is that of the rest
 module _ (w : List ℕ) (caps : Caps) (v : ℕ) where
   abbrev pub Going : ℕ → ℕ → ℕ → Type 0
-  Going n link low = chainRight w caps v ≡ goes w caps v (128 - n) link low n
+  Going n link low = chainRight w caps v ≡ goes w caps v (mostAround - n) link low n
 
   pub go-start : (x : ℕ) → x ≡ read w caps (InMark v First) → Going 0 x 0
   unfolding chainRight
@@ -160,7 +162,7 @@ module _ (w : List ℕ) (caps : Caps) (v : ℕ) where
 
   pub go-end : (n link low count : ℕ) → Going n link low → link ≡ 0 → count ≡ read w caps (InMark v Held) → eqb count n ≡ chainRight w caps v
   unfolding goes
-  go-end n link low count e z q = sym (e ∙ go (128 - n) link z)
+  go-end n link low count e z q = sym (e ∙ go (mostAround - n) link z)
     where
       go : (k link : ℕ) → link ≡ 0 → goes w caps v k link low n ≡ eqb count n
       go zero link z = rw (eq-eqb link 0 z, q)
@@ -168,25 +170,25 @@ module _ (w : List ℕ) (caps : Caps) (v : ℕ) where
       go (suc k) (suc d) z = absurd (omega arith)
 
   -- one cell of the chain
-  go-one : (n link at low : ℕ) → n < 128 → link ≡ suc at
-      → goes w caps v (128 - n) link low n
-      ≡ stands w caps v low (at / 8) (at % 8) && goes w caps v (128 - (n + 1)) (linkBehind w caps at) (at / 8 + 1) (n + 1)
+  go-one : (n link at low : ℕ) → n < mostAround → link ≡ suc at
+      → goes w caps v (mostAround - n) link low n
+      ≡ stands w caps v low (at / 8) (at % 8) && goes w caps v (mostAround - (n + 1)) (linkBehind w caps at) (at / 8 + 1) (n + 1)
   unfolding goes
   go-one n link at low h l =
-      let k : 128 - n ≡ suc (128 - (n + 1)) = omega arith in
+      let k : mostAround - n ≡ suc (mostAround - (n + 1)) = omega arith in
       rw (k, l, add-one n, add-one (at / 8))
 
-  pub go-no : (n link at low : ℕ) → Going n link low → n < 128 → link ≡ suc at → stands w caps v low (at / 8) (at % 8) ≡ false → false ≡ chainRight w caps v
+  pub go-no : (n link at low : ℕ) → Going n link low → n < mostAround → link ≡ suc at → stands w caps v low (at / 8) (at % 8) ≡ false → false ≡ chainRight w caps v
   go-no n link at low e h l g = sym (e ∙ (go-one n link at low h l ∙ rw g))
 
-  pub go-more : (n link at low x : ℕ) → Going n link low → n < 128 → link ≡ suc at → stands w caps v low (at / 8) (at % 8) ≡ true
+  pub go-more : (n link at low x : ℕ) → Going n link low → n < mostAround → link ≡ suc at → stands w caps v low (at / 8) (at % 8) ≡ true
       → x ≡ read w caps (InCell (at / 8) (Link (at % 8))) → Going (n + 1) x (at / 8 + 1)
   unfolding linkBehind
   go-more n link at low x e h l g q = e ∙ (go-one n link at low h l ∙ rw (g, q))
 
   -- a chain of more than 128 cells
-  pub go-full : (n link low : ℕ) → Going n link low → 128 ≤ n → (link ≡ 0 → ⊥) → false ≡ chainRight w caps v
+  pub go-full : (n link low : ℕ) → Going n link low → mostAround ≤ n → (link ≡ 0 → ⊥) → false ≡ chainRight w caps v
   unfolding goes
   go-full n link low e h f =
-      let k : 128 - n ≡ 0 = omega arith in
+      let k : mostAround - n ≡ 0 = omega arith in
       sym (e ∙ (ap (λ (i : ℕ). goes w caps v i link low n) k ∙ rw (ne-eqb link 0 f)))

@@ -29,6 +29,7 @@ use Rattle.laid.specs.Laid.{typed, laidIn}
 use Rattle.laid.specs.Upright.{Upright}
 use Rattle.laid.proofs.Records.{marks-length, marks-inside, typed-passes}
 use Rattle.laid.proofs.Seen.{bodySeen, seen, Headed, body-here, body-past, seen-once, few-seen}
+use Rattle.numbers.specs.Sizes.{mostAround}
 
 module _ (caps : Caps) (s : State) where
   -- the chains are the holders of the marks
@@ -134,11 +135,11 @@ module _ (w : List ℕ) (caps : Caps) (hd : Headed w caps) (laid : laidIn w caps
       go (yes h) = marks-inside w caps hd laid c h v (ap (λ (b : Body). has v (b .marks)) (sym (body-here w caps c h)) ∙ t)
       go (no h) = absurd (clash t (ap (λ (b : Body). has v (b .marks)) (body-past w caps c (omega arith))))
 
-  chain-short : (v : ℕ) → length (chainOf caps (seen w caps) v) ≤ 128
+  chain-short : (v : ℕ) → length (chainOf caps (seen w caps) v) ≤ mostAround
   unfolding chainOf seen
   chain-short v = go (decLt v (caps .marks))
     where
-      go : Dec (v < caps .marks) → length (chainOf caps (seen w caps) v) ≤ 128
+      go : Dec (v < caps .marks) → length (chainOf caps (seen w caps) v) ≤ mostAround
       go (yes h) = few-seen w caps hd laid v h
       go (no h) =
           rw (select-empty (λ c. has v (bodySeen w caps c .marks)) (caps .cells) (λ c less. not-true-false _ (λ t. h (body-inside v c t)))) (omega arith)

@@ -13,6 +13,8 @@ use Rattle.store.specs.Fields.{First, Held, Sib, Link, Far}
 use Rattle.store.specs.Slots.{InMark, InCell, read, codeIn, cornerIn}
 use Rattle.store.specs.Rests.{headBlank, markBlank, cellBlank}
 use Rattle.facet.specs.Facet.{marksIn}
+use Rattle.numbers.specs.Half.{cut}
+use Rattle.store.specs.Layout.{nearMarks}
 
 -- no cell, or a type of the table
 unfoldable pub typed : ℕ → Bool
@@ -28,7 +30,7 @@ bare n k x = ltb k n || eqb x 0
 
 -- the mark at a corner that stands in the second part: all of them where there are more than four
 unfoldable pub farMark : List ℕ → ℕ → ℕ
-farMark marks k = cond (ltb 4 (length marks)) (getD marks k 0) 0
+farMark marks k = cond (ltb nearMarks (length marks)) (getD marks k 0) 0
 
 -- a corner of a cell with these marks: its mark in both parts, 0 behind them; and no link behind them
 unfoldable pub cornerRight : List ℕ → Caps → ℕ → List ℕ → ℕ → Bool
@@ -38,7 +40,7 @@ cornerRight w caps c marks k =
 
 -- a facet of a cell with n facets: no sibling behind them. A half-facet's number has room for the cells below 65,536
 unfoldable pub facetRight : List ℕ → Caps → ℕ → ℕ → ℕ → Bool
-facetRight w caps c n f = bare n f (read w caps (InCell (c % 65536) (Sib f)))
+facetRight w caps c n f = bare n f (read w caps (InCell (cut c) (Sib f)))
 
 -- a cell's record: its type, its marks, each corner, each facet, and the words that say nothing
 unfoldable pub recordRight : List ℕ → Caps → ℕ → Bool

@@ -21,6 +21,7 @@ use shapes::MOST_FACETS;
 use shapes::MOST_MARKS;
 use shapes::dimension;
 use shapes::facet_count;
+use store::NEAR_MARKS;
 use store::cell_blank;
 use store::code_of;
 use store::corner_of;
@@ -57,7 +58,7 @@ fn fine(caps: Caps, marks: &[u32]) -> bool
 fn far_mark(marks: &[u32], k: u32) -> u32
     ensures { λ r. ⌜ r ≡ farMark (now (marks .entry)) k ⌝ }
 {
-    if marks.len() <= 4 {
+    if marks.len() <= NEAR_MARKS as usize {
         return 0;
     }
     word(marks, k as usize)

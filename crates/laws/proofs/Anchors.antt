@@ -22,6 +22,7 @@ use Rattle.map.specs.Siblings.{isHalf, marksOf, border}
 use Rattle.map.specs.Stars.{star, linked, group, halvesAt, anchor, anchors}
 use Rattle.lists.proofs.Keep.{keep-in, keep-out, first-either, map-has}
 use Rattle.laws.proofs.Groups.{group-self, group-inside, one-group}
+use Rattle.shapes.specs.Sizes.{noFacet}
 
 -- every cell has as many marks as its type says
 pub record Fitting (m : Map) : Type 0 where
@@ -43,10 +44,10 @@ module _ (m : Map) where
 
   -- each facet of a cell has its half-facet, with the marks of the facet
   pub half-facet : (c f : ℕ) → f < length (facetsAt m c)
-      → ((8 * c + f) / 8 ≡ c) × (isHalf m (8 * c + f) ≡ true) × (marksOf m (8 * c + f) ≡ getD (facetsAt m c) f []) × (f < 8)
+      → ((8 * c + f) / 8 ≡ c) × (isHalf m (8 * c + f) ≡ true) × (marksOf m (8 * c + f) ≡ getD (facetsAt m c) f []) × (f < noFacet)
   unfolding isHalf marksOf facetsAt
   half-facet c f l =
-      let few : f < 8 = omega (arith, facts (m .at c .code) .facets, simp length-map at l) in
+      let few : f < noFacet = omega (arith, facts (m .at c .code) .facets, simp length-map at l) in
       let cell : (8 * c + f) / 8 ≡ c = omega arith in
       let local : (8 * c + f) % 8 ≡ f = omega arith in
       (cell, rw (cell, local) (lt-ltb f _ l), rw (cell, local), few)

@@ -20,6 +20,7 @@ use Rattle.map.specs.Answers.{Check, _when_, answer, insertChecks, cellChecks}
 use Rattle.map.specs.History.{empty, Edit, Insert, Remove, editAnswer, put, changed, edited, history}
 use Rattle.map.specs.Sound.{Sound}
 use Rattle.lists.proofs.Counts.{none-has, has-none, select-none, select-fewer, select-more}
+use Rattle.numbers.specs.Sizes.{mostAround}
 
 -- an accepted edit is made
 pub edited-changed : (m : Map) (e : Edit) → editAnswer m e .refusal ≡ 0 → edited m e ≡ changed m e
@@ -70,7 +71,7 @@ pub record MayInsert (m : Map) (c : ℕ) (x : Body) : Type 0 where
   pub inside : (v : ℕ) → has v (x .marks) ≡ true → v < m .caps .marks
   pub distinct : repeats (x .marks) ≡ false
   pub new : (k : ℕ) → k < m .caps .cells → m .at k .code ≡ x .code → sameSet (m .at k .marks) (x .marks) ≡ false
-  pub few : (v : ℕ) → has v (x .marks) ≡ true → length (holders m v) < 128
+  pub few : (v : ℕ) → has v (x .marks) ≡ true → length (holders m v) < mostAround
 
 -- what a removal is accepted for
 pub record MayRemove (m : Map) (c : ℕ) : Type 0 where
@@ -91,7 +92,7 @@ module _ (m : Map) (c : ℕ) (x : Body) where
         inside = λ v h. leb-false _ v (none-has _ (x .marks) (pass 4) v h);
         distinct = pass 5;
         new = λ k l same. none-has _ (cellsOf m (x .code)) (pass 6) k (select-in _ _ k l (eq-eqb _ (x .code) same));
-        few = λ v h. leb-false 128 _ (none-has _ (x .marks) (pass 7) v h);
+        few = λ v h. leb-false mostAround _ (none-has _ (x .marks) (pass 7) v h);
       }
 
   -- and an insertion that has it is accepted
@@ -107,7 +108,7 @@ module _ (m : Map) (c : ℕ) (x : Body) where
         r .distinct,
         has-none (λ k. sameSet (m .at k .marks) (x .marks)) (cellsOf m (x .code))
             (λ k h. let s = select-out _ _ k h in r .new k (s .0) (eqb-true _ (x .code) (s .1))),
-        has-none (λ v. leb 128 (length (holders m v))) (x .marks) (λ v h. lt-leb 128 _ (r .few v h)),
+        has-none (λ v. leb mostAround (length (holders m v))) (x .marks) (λ v h. lt-leb mostAround _ (r .few v h)),
       )
 
 module _ (m : Map) (c : ℕ) where
@@ -178,7 +179,7 @@ module _ (m : Map) where
 
   -- a map of fitting cells is sound where no two are alike and no mark stands in too many
   fits-sound : ((c : ℕ) → Fits (m .caps) c (m .at c)) → ((a b : ℕ) → Alone a (m .at a) b (m .at b))
-      → ((v : ℕ) → length (holders m v) ≤ 128) → Sound m
+      → ((v : ℕ) → length (holders m v) ≤ mostAround) → Sound m
   unfolding live dimensionAt holds
   fits-sound f alone few = record {
     below = λ c. f c .below;
@@ -225,7 +226,7 @@ module _ (m : Map) (c : ℕ) (x : Body) where
   -- the map stays sound with another cell that fits and is like no other, of marks that stand in less than 128 cells
   sound-put : Sound m → c < m .caps .cells → Fits (m .caps) c x
       → (coded x ≡ true → (k : ℕ) → m .at k .code ≡ x .code → sameSet (m .at k .marks) (x .marks) ≡ true → ⊥)
-      → ((v : ℕ) → has v (x .marks) ≡ true → (holds m v c ≡ false) × (length (holders m v) < 128)) → Sound (put m c x)
+      → ((v : ℕ) → has v (x .marks) ≡ true → (holds m v c ≡ false) × (length (holders m v) < mostAround)) → Sound (put m c x)
   unfolding put live
   sound-put s l fit new few =
       fits-sound (put m c x) (put-all (Fits (m .caps)) fit (λ k n. sound-fits m s k))

@@ -45,6 +45,7 @@ use Rattle.checks.specs.declared.Opening.{Opening}
 use Rattle.checks.specs.declared.Opening.the-variants as Opening′
 use Rattle.checks.proofs.Opens.{mesh-opened, wf-caps}
 use Rattle.listing.specs.Listing.{listed, Listing, Given}
+use Rattle.numbers.specs.Sizes.{mostAround}
 
 -- a refused answer lists nothing
 listed-refused : (a : Answer) (why : Refusal) (l o : List ℕ) → refused why ≡ a → o ≡ listed a l o
@@ -150,19 +151,19 @@ gives-list w caps most ok list o o′ r g m e wf k = rw (wf-map w caps m e wf) a
 
 -- the star of a mark that passed its checks
 pub star-lists : (w : List ℕ) (caps : Caps) (d v : ℕ) (verdict : Verdict) → Checked w caps (λ m. starChecks m d v) verdict → verdict ≡ Accepted
-    → (zeros from : List ℕ) (n : ℕ) → Gives w caps 128 (AtMark caps v) (λ m. star m d v) zeros n from
+    → (zeros from : List ℕ) (n : ℕ) → Gives w caps mostAround (AtMark caps v) (λ m. star m d v) zeros n from
     → (m : Map) → m .caps ≡ caps → Wf w m → Copied (star m d v) zeros n from
 star-lists w caps d v verdict k a zeros from n g m e wf =
-    gives-list w caps 128 (AtMark caps v) (λ m. star m d v) zeros from n g m e wf
+    gives-list w caps mostAround (AtMark caps v) (λ m. star m d v) zeros from n g m e wf
     (record { ready = wf-settled w caps m e wf .ready; mark = omega (arith, star-passed w caps verdict a m e wf d v k .2, marks-of caps m e) })
 
 -- the anchors of a mark that passed its checks
 pub anchors-list : (w : List ℕ) (caps : Caps) (d v : ℕ) (verdict : Verdict) → Checked w caps (λ m. starChecks m d v) verdict → verdict ≡ Accepted
     → (rows : List (List (List ℕ))) → rows ≡ table
-    → (zeros from : List ℕ) (n : ℕ) → Gives w caps 128 (Around caps rows v) (λ m. anchors m d v) zeros n from
+    → (zeros from : List ℕ) (n : ℕ) → Gives w caps mostAround (Around caps rows v) (λ m. anchors m d v) zeros n from
     → (m : Map) → m .caps ≡ caps → Wf w m → Copied (anchors m d v) zeros n from
 anchors-list w caps d v verdict k a rows t zeros from n g m e wf =
-    gives-list w caps 128 (Around caps rows v) (λ m. anchors m d v) zeros from n g m e wf
+    gives-list w caps mostAround (Around caps rows v) (λ m. anchors m d v) zeros from n g m e wf
     (record {
       settled = wf-settled w caps m e wf;
       types = t;

@@ -3,7 +3,7 @@ use mathlib.Core.Bool.{Bool, true, false, not, _&&_}
 use mathlib.Core.List.{List, [], _∷_, _++_}
 use Prim.Native.Nat.{ℕ, zero, suc, _*_}
 use Rattle.lists.specs.Lists.{all, same, select}
-use Rattle.numbers.specs.Sizes.{capacities}
+use Rattle.numbers.specs.Sizes.{mostAround, capacities}
 use Rattle.map.specs.Cells.{bodyOf, Map}
 use Rattle.map.specs.Siblings.{isHalf, border}
 use Rattle.map.specs.Stars.{star, anchors}
@@ -33,8 +33,8 @@ replied a l = a .refusal ∷ l
 -- the refusal number, and what is given
 unfoldable pub ask : Map → Question → List ℕ
 ask m (Sibling c f) = replied (siblingAnswer m c f) (siblingAnswer m c f .values)
-ask m (Star d v) = replied (starAnswer m d v 128) (star m d v)
-ask m (Anchors d v) = replied (anchorsAnswer m d v 128) (anchors m d v)
+ask m (Star d v) = replied (starAnswer m d v mostAround) (star m d v)
+ask m (Anchors d v) = replied (anchorsAnswer m d v mostAround) (anchors m d v)
 ask m (Try e) = replied (editAnswer m e) []
 ask m Borders = 0 ∷ select (λ h. isHalf m h && border m h) (8 * m .caps .cells)
 ask m Inner = 0 ∷ select (λ h. isHalf m h && not (border m h)) (8 * m .caps .cells)

@@ -28,8 +28,9 @@ use Rattle.picture.specs.Step.{Step}
 use Rattle.picture.proofs.Record.{count-read}
 use Rattle.picture.proofs.Settles.{wf-pic}
 use Rattle.settle.specs.Settle.{MaySettle, settled}
-use Rattle.edit.specs.Edit.{withLinks, MayLink, Made}
-use Rattle.edit.proofs.Inserts.{may-write, may-link, may-settle, may-count, inserted}
+use Rattle.edit.specs.Edit.{withLinks, MayLinks, Made}
+use Rattle.edit.proofs.Inserts.{may-write, may-links, may-settle, may-count, inserted}
+use Rattle.store.specs.Layout.{nearMarks}
 
 -- the stored count of a type is its count, at most the capacity
 pub type-count : (w : List ℕ) (caps : Caps) (m : Map) → m .caps ≡ caps → Wf w m → (t : ℕ) → 1 ≤ t → t ≤ mostCode
@@ -50,9 +51,9 @@ module _ (caps : Caps) (c : ℕ) (x : Body) (rows : List (List (List ℕ))) (typ
   }
 
   -- record, chains, what is around, count
-  pub insert-made : (far : Bool) (w₁ w₂ w₃ w₄ : List ℕ) → far ≡ ltb 4 (length (x .marks))
+  pub insert-made : (far : Bool) (w₁ w₂ w₃ w₄ : List ℕ) → far ≡ ltb nearMarks (length (x .marks))
       → Step caps w w₁ (MayWrite caps c (x .marks) far) (λ s. withBody s c x)
-      → Step caps w₁ w₂ (MayLink caps c (x .marks)) (λ s. withLinks s c (x .marks) true)
+      → Step caps w₁ w₂ (MayLinks caps c (x .marks) true) (λ s. withLinks s c (x .marks) true)
       → Step caps w₂ w₃ (MaySettle caps rows (x .code) (x .marks)) (settled caps)
       → Step caps w₃ w₄ (λ s. (1 ≤ x .code) × (x .code ≤ mostCode)) (λ s. withCount s (x .code) (count + 1))
       → Made caps w w₄ (Insert c x)
@@ -66,7 +67,7 @@ module _ (caps : Caps) (c : ℕ) (x : Body) (rows : List (List (List ℕ))) (typ
           let a = may-count m (wf .sound) c x r in
           let n : count + 1 ≡ suc (length (cellsOf m (x .code))) = add-one count ∙ ap suc (word ∙ type-count w caps m e wf (x .code) (a .0) (a .1) .0) in
           let q₁ = (rw (sym e, ef) at p₁) .state (stateOf m) (wf .picture) (may-write m (wf .sound) c x r) in
-          let q₂ = (rw (sym e) at p₂) .state _ q₁ (may-link m (wf .sound) c x r) in
+          let q₂ = (rw (sym e) at p₂) .state _ q₁ (may-links m (wf .sound) c x r) in
           let q₃ = (rw (sym e) at p₃) .state _ q₂ (rw types (may-settle m (wf .sound) c x r)) in
           let q₄ = (rw (sym e) at p₄) .state _ q₃ a in
           inserted m (wf .sound) c x r w₄ (rw n at q₄)

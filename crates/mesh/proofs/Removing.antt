@@ -35,11 +35,12 @@ use Rattle.facet.specs.Facet.{marksIn}
 use Rattle.facet.proofs.Read.{marks-is}
 use Rattle.checks.proofs.Rows.{cells-of, code-of}
 use Rattle.settle.specs.Settle.{MaySettle, settled}
-use Rattle.edit.specs.Edit.{withLinks, MayUnlink, Made}
+use Rattle.edit.specs.Edit.{withLinks, MayLinks, Made}
 use Rattle.edit.specs.Cleared.{cleared}
-use Rattle.edit.proofs.Removes.{may-unlink, may-write, may-settle, may-count, removed}
+use Rattle.edit.proofs.Removes.{may-links, may-write, may-settle, may-count, removed}
 use Rattle.mesh.specs.Edited.{TakenOut}
 use Rattle.mesh.proofs.Inserting.{type-count}
+use Rattle.store.specs.Layout.{nearMarks}
 
 -- the answer of a removal is that of its checks
 pub remove-says : (m : Map) (c : ℕ) → editAnswer m (Remove c) ≡ answer (cellChecks m c) []
@@ -60,8 +61,8 @@ module _ (caps : Caps) (c t : ℕ) (marks : List ℕ) (rows : List (List (List �
   }
 
   -- chains, record, siblings, what is around, count
-  pub remove-made : (none : List ℕ) (far : Bool) (w₁ w₂ w₃ w₄ w₅ : List ℕ) → none ≡ partOf marks 0 0 → far ≡ ltb 4 (length marks)
-      → Step caps w w₁ (MayUnlink caps c marks) (λ s. withLinks s c marks false)
+  pub remove-made : (none : List ℕ) (far : Bool) (w₁ w₂ w₃ w₄ w₅ : List ℕ) → none ≡ partOf marks 0 0 → far ≡ ltb nearMarks (length marks)
+      → Step caps w w₁ (MayLinks caps c marks false) (λ s. withLinks s c marks false)
       → Step caps w₁ w₂ (MayWrite caps c none far) (λ s. withBody s c (bodyOf 0 none))
       → Step caps w₂ w₃ (λ s. c < caps .cells) (λ s. cleared s c)
       → Step caps w₃ w₄ (MaySettle caps rows t marks) (settled caps)
@@ -80,7 +81,7 @@ module _ (caps : Caps) (c t : ℕ) (marks : List ℕ) (rows : List (List (List �
       made m e wf r q h =
           let a = may-count m (wf .sound) c r in
           let n : count ≡ length (cellsOf m t) = word ∙ type-count w caps m e wf t (omega (arith, a .0, q)) (omega (arith, a .1, q)) .0 in
-          let q₁ = (rw (sym e) at p₁) .state (stateOf m) (wf .picture) (rw h (may-unlink m (wf .sound) c r)) in
+          let q₁ = (rw (sym e) at p₁) .state (stateOf m) (wf .picture) (rw h (may-links m (wf .sound) c r)) in
           let q₂ = (rw (sym e, nothing, ef) at p₂) .state _ q₁ (rw h (may-write m (wf .sound) c r)) in
           let q₃ = (rw (sym e) at p₃) .state _ q₂ (r .number) in
           let q₄ = (rw (sym e) at p₄) .state _ q₃ (rw (types, h, q) (may-settle m (wf .sound) c r)) in

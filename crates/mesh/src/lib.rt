@@ -12,12 +12,12 @@ ghost use Rattle.map.specs.History.{Insert, Remove};
 ghost use Rattle.lists.specs.Filled.{Filled};
 ghost use Rattle.facet.specs.Facet.{marksIn};
 ghost use Rattle.mesh.specs.Edited.{Edited, TakenOut};
+ghost use Rattle.store.specs.Layout.{nearMarks};
 use admit::about_insert;
 use checks::Opening;
 use checks::about_cell;
 use edit::clear_siblings;
-use edit::link_all;
-use edit::unlink_all;
+use edit::relink_all;
 use facet::marks_at;
 use map::Verdict;
 use numbers::Caps;
@@ -29,6 +29,7 @@ use settle::settle;
 use shapes::MOST_MARKS;
 use shapes::facet_table;
 use shapes::mark_count;
+use store::NEAR_MARKS;
 use store::code_of;
 use store::count_of;
 use words::part;
@@ -45,16 +46,16 @@ fn make_insert(w: &mut [u32], caps: Caps, c: Cell, t: u32, marks: &[u32])
         return;
     }
     put_body(w, caps, c, t, marks, in_far(marks));
-    link_all(w, caps, c, marks);
+    relink_all(w, caps, c, marks, true);
     settle(w, caps, &rows, t, marks);
     put_count(w, caps, t, count + 1);
 }
 
 // Whether a cell on these marks has them in its second part.
 fn in_far(marks: &[u32]) -> bool
-    ensures { λ r. ⌜ r ≡ ltb 4 (length (now (marks .entry))) ⌝ }
+    ensures { λ r. ⌜ r ≡ ltb nearMarks (length (now (marks .entry))) ⌝ }
 {
-    4 < marks.len()
+    (NEAR_MARKS as usize) < marks.len()
 }
 
 // A cell of the caller's number, of a type, on marks.
@@ -79,7 +80,7 @@ fn take_out(w: &mut [u32], caps: Caps, c: Cell, t: u32, marks: &[u32])
     if count == 0 {
         return;
     }
-    unlink_all(w, caps, c, marks);
+    relink_all(w, caps, c, marks, false);
     put_body(w, caps, c, 0, part(marks, 0, 0), in_far(marks));
     clear_siblings(w, caps, c);
     settle(w, caps, &rows, t, marks);

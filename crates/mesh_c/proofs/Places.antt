@@ -15,7 +15,9 @@ use Rattle.numbers.specs.declared.Caps.{Caps}
 use Rattle.store.specs.declared.Opened.the-variants.{Mesh, Nothing}
 use Rattle.store.specs.Layout.{nearAt, farAt, room}
 use Rattle.store.specs.Slots.{marksAt}
-use Rattle.store.proofs.Writes.{marks-near, marks-far}
+use Rattle.store.proofs.Marks.{marks-fit}
+use Rattle.shapes.specs.Sizes.{mostMarks}
+use Rattle.numbers.specs.Sizes.{mostCapacity}
 use Rattle.store.specs.Open.{isMesh, opened}
 use Rattle.map.specs.Cells.{Map, live}
 use Rattle.map.specs.Answers.{Answer, _when_, answer, cellChecks, typeAnswer}
@@ -34,16 +36,8 @@ use Rattle.ask.specs.Asked.{Asked}
 use Rattle.ask.specs.Refusals.{noValue}
 use Rattle.mesh_c.specs.Answered.{MarksTold}
 
--- the marks of a cell lie in the room, and a room has fewer words than a word can count
-marks-fit : (caps : Caps) (c n : ℕ) → c < caps .cells → n ≤ 8 → marksAt caps c n + n ≤ room (caps .marks) (caps .cells)
-unfolding room nearAt farAt
-marks-fit caps c n h l = go (decLt 4 n)
-  where
-    go : Dec (4 < n) → marksAt caps c n + n ≤ room (caps .marks) (caps .cells)
-    go (yes m) = rw (marks-far caps c n m) (omega arith)
-    go (no f) = rw (marks-near caps c n (omega arith)) (omega arith)
-
-room-small : (caps : Caps) → caps .marks ≤ 65535 → caps .cells ≤ 65535 → room (caps .marks) (caps .cells) < 4294967296
+-- a room has fewer words than a word can count
+room-small : (caps : Caps) → caps .marks ≤ mostCapacity → caps .cells ≤ mostCapacity → room (caps .marks) (caps .cells) < 4294967296
 unfolding room
 room-small caps a b = omega arith
 
@@ -101,7 +95,7 @@ module _ (w : List ℕ) (c : ℕ) (a : Value) (asked : Asked valueSays noValue w
       size : k ≡ length (m .at c .marks)
       size = q ∙ (ap (λ (u : ℕ). shape u .marks) (typed m c t (type-given m wf) .1) ∙ sym (wf .sound .fitting c))
 
-      few : length (m .at c .marks) ≤ 8
+      few : length (m .at c .marks) ≤ mostMarks
       few = omega (arith, wf .sound .fitting c, facts (m .at c .code) .marks)
 
       here : p ≡ marksAt (m .caps) c (length (m .at c .marks))

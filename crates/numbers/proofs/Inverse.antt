@@ -2,7 +2,8 @@
 use mathlib.Core.Path.{_≡_}
 use Prim.Native.Nat.{ℕ, _*_, _/_, _%_, _<_}
 use native.Mathlib.Omega.{arith}
-use Rattle.numbers.specs.Half.{halfOf}
+use Rattle.numbers.specs.Half.{halfOf, cut}
+use Rattle.numbers.specs.Sizes.{pastCells}
 
 pub half-cell : (c f : ℕ) → f < 8 → halfOf c f / 8 ≡ c
 unfolding halfOf
@@ -25,6 +26,6 @@ pub below-half : (h size : ℕ) → h < 8 * size → h / 8 < size
 below-half h size k = omega arith
 
 -- for cells and facets of the outline nothing is cut off
-pub half-uncut : (c f : ℕ) → c < 65536 → f < 8 → halfOf (c % 65536) (f % 8) ≡ halfOf c f
+pub half-uncut : (c f : ℕ) → c < pastCells → f < 8 → halfOf (cut c) (f % 8) ≡ halfOf c f
 unfolding halfOf
 half-uncut c f h k = omega arith

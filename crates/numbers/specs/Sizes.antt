@@ -6,6 +6,10 @@ use Rattle.numbers.specs.declared.Caps.{Caps}
 abbrev pub mostCapacity : ℕ
 mostCapacity = 65535
 
+-- cells are numbered below this, whatever the capacity
+abbrev pub pastCells : ℕ
+pastCells = 65536
+
 -- the capacities of so many marks and so many cells
 abbrev pub capacities : ℕ → ℕ → Caps
 capacities marks cells = record { marks = marks; cells = cells }

@@ -6,10 +6,13 @@
 // know: a cell's number where a mark's is due does not compile.
 ghost use mathlib.Core.Path.{_≡_};
 ghost use Prim.Native.Nat.{_/_, _%_};
-ghost use Rattle.numbers.specs.Half.{halfOf};
+ghost use Rattle.numbers.specs.Half.{halfOf, cut};
 
 // "Capacities: 0 to 65,535 marks and 0 to 65,535 cells."
 pub const MOST_CAPACITY: u32 = 65535;
+
+// Cells are numbered below this, whatever the capacity.
+pub const PAST_CELLS: u32 = 65536;
 
 // "A mark may stand in at most 128 live cells, all dimensions together."
 pub const MOST_AROUND: u32 = 128;
@@ -31,9 +34,9 @@ pub struct Half(pub u32);
 
 // The number of a cell's local facet. Cells run below 65,536 and facets below 8; the rest is cut off.
 pub fn half_of(c: Cell, f: u32) -> Half
-    ensures { λ r. ⌜ r .0 ≡ halfOf (c .0 % 65536) (f % 8) ⌝ }
+    ensures { λ r. ⌜ r .0 ≡ halfOf (cut (c .0)) (f % 8) ⌝ }
 {
-    Half(8 * (c.0 % 65536) + f % 8)
+    Half(8 * (c.0 % PAST_CELLS) + f % 8)
 }
 
 // The cell of a half-facet.

@@ -1,39 +1,56 @@
 -- States that agree in all that is stored have the same words.
-use mathlib.Core.Path.{_≡_, refl, sym, ap, _∙_}
+use mathlib.Core.Path.{_≡_, refl, sym, ap, _∙_, subst}
 use mathlib.Core.Bool.{Bool}
-use mathlib.Core.List.{List, [], _∷_}
-use Prim.Native.Nat.{ℕ, zero, suc, _≤_}
-use native.Mathlib.Omega.{arith}
-use lib.ListN.{getD}
+use mathlib.Core.List.{List}
+use Prim.Native.Nat.{ℕ, _+_, _*_}
 use Rattle.numbers.specs.declared.Caps.{Caps}
-use Rattle.store.specs.Fields.{First, Held, Anchor, MarkRest, Code, Near, Sib, Link, Far, CellRest}
+use Rattle.store.specs.Fields.{Magic, MarkCap, CellCap, Count, HeadRest, First, Held, Anchor, MarkRest, Code, Near, Sib, Link, Far, CellRest}
 use Rattle.store.specs.Slots.{Slot, InHead, InMark, InCell, Within}
 use Rattle.map.specs.Cells.{Body}
 use Rattle.picture.specs.State.{State}
 use Rattle.picture.specs.Picture.{chainOf, ahead, link, corner, linkWord, headWord, markWord, cellWord, wordOf, Pic}
 use Rattle.picture.proofs.Put.{pic-same}
 
--- a state with other first anchors
-abbrev pub withAncs : State → (ℕ → ℕ → ℕ) → State
-withAncs s anc = record { at = s .at; chain = s .chain; sib = s .sib; anc = anc; count = s .count }
+-- a state with other siblings, first anchors and counts
+abbrev pub retold : State → (ℕ → ℕ) → (ℕ → ℕ → ℕ) → (ℕ → ℕ) → State
+retold s sib anc count = record { at = s .at; chain = s .chain; sib = sib; anc = anc; count = count }
 
-module _ (caps : Caps) (s : State) (anc : ℕ → ℕ → ℕ) (same : (d v : ℕ) → 1 ≤ d → d ≤ 3 → s .anc d v ≡ anc d v) where
-  ancs-words : (z : Slot) → Within (caps .marks) (caps .cells) z → wordOf caps s z ≡ wordOf caps (withAncs s anc) z
+module _ (caps : Caps) (s : State) (sib : ℕ → ℕ) (anc : ℕ → ℕ → ℕ) (count : ℕ → ℕ) where
+  -- a word is the same unless it is a sibling, a first anchor or a count, and that is another
+  pub word-retold : (z : Slot) → ((c f : ℕ) → z ≡ InCell c (Sib f) → sib (8 * c + f) ≡ s .sib (8 * c + f))
+      → ((d v : ℕ) → z ≡ InMark v (Anchor d) → anc d v ≡ s .anc d v) → ((t : ℕ) → z ≡ InHead (Count t) → count t ≡ s .count t)
+      → wordOf caps (retold s sib anc count) z ≡ wordOf caps s z
   unfolding wordOf headWord markWord cellWord link ahead chainOf corner linkWord
-  ancs-words (InHead f) h = refl
-  ancs-words (InMark v First) h = refl
-  ancs-words (InMark v Held) h = refl
-  ancs-words (InMark v (Anchor d)) h = same d v (h .1 .0) (h .1 .1)
-  ancs-words (InMark v (MarkRest k)) h = refl
-  ancs-words (InCell c Code) h = refl
-  ancs-words (InCell c (Near k)) h = refl
-  ancs-words (InCell c (Sib f)) h = refl
-  ancs-words (InCell c (Link k)) h = refl
-  ancs-words (InCell c (Far k)) h = refl
-  ancs-words (InCell c (CellRest p)) h = refl
+  word-retold (InHead Magic) sibs ancs counts = refl
+  word-retold (InHead MarkCap) sibs ancs counts = refl
+  word-retold (InHead CellCap) sibs ancs counts = refl
+  word-retold (InHead (Count t)) sibs ancs counts = counts t refl
+  word-retold (InHead (HeadRest k)) sibs ancs counts = refl
+  word-retold (InMark v First) sibs ancs counts = refl
+  word-retold (InMark v Held) sibs ancs counts = refl
+  word-retold (InMark v (Anchor d)) sibs ancs counts = ancs d v refl
+  word-retold (InMark v (MarkRest k)) sibs ancs counts = refl
+  word-retold (InCell c Code) sibs ancs counts = refl
+  word-retold (InCell c (Near k)) sibs ancs counts = refl
+  word-retold (InCell c (Sib f)) sibs ancs counts = sibs c f refl
+  word-retold (InCell c (Link k)) sibs ancs counts = refl
+  word-retold (InCell c (Far k)) sibs ancs counts = refl
+  word-retold (InCell c (CellRest p)) sibs ancs counts = refl
 
-  pub pic-ancs : (w : List ℕ) → Pic w caps s → Pic w caps (withAncs s anc)
-  pic-ancs w p = pic-same w caps s (withAncs s anc) ancs-words p
+  -- the picture is the same if all that are stored are
+  pub pic-retold : ((c f : ℕ) → Within (caps .marks) (caps .cells) (InCell c (Sib f)) → s .sib (8 * c + f) ≡ sib (8 * c + f))
+      → ((d v : ℕ) → Within (caps .marks) (caps .cells) (InMark v (Anchor d)) → s .anc d v ≡ anc d v)
+      → ((t : ℕ) → Within (caps .marks) (caps .cells) (InHead (Count t)) → s .count t ≡ count t)
+      → (w : List ℕ) → Pic w caps s → Pic w caps (retold s sib anc count)
+  pic-retold sibs ancs counts w p =
+      pic-same w caps s (retold s sib anc count)
+      (λ z h.
+      sym
+      (word-retold z (λ c f e. sym (sibs c f (within z h e))) (λ d v e. sym (ancs d v (within z h e))) (λ t e. sym (counts t (within z h e)))))
+      p
+    where
+      within : {x : Slot} (z : Slot) → Within (caps .marks) (caps .cells) z → z ≡ x → Within (caps .marks) (caps .cells) x
+      within z h e = subst (Within (caps .marks) (caps .cells)) e h
 
 -- a state is its fields
 pub state-same : (s s′ : State) → s .at ≡ s′ .at → s .chain ≡ s′ .chain → s .sib ≡ s′ .sib → s .anc ≡ s′ .anc → s .count ≡ s′ .count → s ≡ s′

@@ -16,7 +16,7 @@ use Rattle.lists.proofs.Select.{select-out}
 use Rattle.words.specs.Words.{Only}
 use Rattle.words.proofs.Frame.{only-then, only-none}
 use Rattle.numbers.specs.declared.Caps.{Caps}
-use Rattle.store.specs.Layout.{room}
+use Rattle.store.specs.Layout.{nearMarks, room}
 use Rattle.store.specs.Fields.{InNear, CellField, Code, Near, Sib, Link, Far, CellRest, MarkField, First, Held, Anchor, MarkRest}
 use Rattle.store.specs.Slots.{Slot, InHead, InMark, InCell, Within, cellOpen, read, written}
 use Rattle.store.proofs.Writes.{write-only}
@@ -27,6 +27,7 @@ use Rattle.picture.specs.Changes.{withBody}
 use Rattle.picture.specs.Step.{Step}
 use Rattle.picture.specs.Writes.{MayWrite, Fills, Fars}
 use Rattle.picture.proofs.Fills.{written-here, written-other}
+use Rattle.shapes.specs.Sizes.{mostMarks}
 
 -- the body that was put
 pub body-here : (s : State) (c : ℕ) (b : Body) → withBody s c b .at c ≡ b
@@ -79,7 +80,7 @@ module _ (caps : Caps) (s : State) (c : ℕ) (loose : (v : ℕ) → s .chain v c
       ap (λ (y : Body). cond (ltb k (length (y .marks)) && s .chain (getD (y .marks) k 0) e) (link caps (withBody s c b) (getD (y .marks) k 0) (suc e)) 0)
       (body-other s c b e ne)
       ∙ ap (λ (n : ℕ). cond (ltb k (length (s .at e .marks)) && s .chain (getD (s .at e .marks) k 0) e) n 0) (link-loose (getD (s .at e .marks) k 0) (suc e))
-  cell-other e (Far k) ne = ap (λ (y : Body). cond (ltb 4 (length (y .marks))) (getD (y .marks) k 0) 0) (body-other s c b e ne)
+  cell-other e (Far k) ne = ap (λ (y : Body). cond (ltb nearMarks (length (y .marks))) (getD (y .marks) k 0) 0) (body-other s c b e ne)
   cell-other e (CellRest p) ne = refl
 
   mark-same : (v : ℕ) (f : MarkField) → markWord caps (withBody s c b) v f ≡ markWord caps s v f
@@ -115,8 +116,8 @@ module _ (caps : Caps) (s : State) (c t : ℕ) (marks : List ℕ) (far : Bool) (
   after : State
   after = withBody s c (bodyOf t marks)
 
-  short : (l : List ℕ) (k : ℕ) → length l ≤ 4 → cond (ltb 4 (length l)) (getD l k 0) 0 ≡ 0
-  short l k h = rw (le-ltb 4 (length l) h)
+  short : (l : List ℕ) (k : ℕ) → length l ≤ nearMarks → cond (ltb nearMarks (length l)) (getD l k 0) 0 ≡ 0
+  short l k h = rw (le-ltb nearMarks (length l) h)
 
   -- no other word differs
   own-same : (f : CellField) → (Written far f → ⊥) → cellWord caps after c f ≡ cellWord caps s c f
@@ -127,7 +128,7 @@ module _ (caps : Caps) (s : State) (c t : ℕ) (marks : List ℕ) (far : Bool) (
   own-same (Link k) n = link-none caps after c (may .loose) (bodyOf t marks) k ∙ sym (link-none caps s c (may .loose) (bodyOf t marks) k)
   own-same (Far k) n =
       let small = may .near (not-true-false far n) in
-      ap (λ (y : Body). cond (ltb 4 (length (y .marks))) (getD (y .marks) k 0) 0) (body-here s c (bodyOf t marks))
+      ap (λ (y : Body). cond (ltb nearMarks (length (y .marks))) (getD (y .marks) k 0) 0) (body-here s c (bodyOf t marks))
       ∙ (short marks k (small .1) ∙ sym (short (s .at c .marks) k (small .0)))
   own-same (CellRest p) n = refl
 
@@ -143,15 +144,15 @@ module _ (caps : Caps) (s : State) (c t : ℕ) (marks : List ℕ) (far : Bool) (
   own-far : far ≡ true → (k : ℕ) → cellWord caps after c (Far k) ≡ getD marks k 0
   unfolding after cellWord corner
   own-far e k =
-      ap (λ (y : Body). cond (ltb 4 (length (y .marks))) (getD (y .marks) k 0) 0) (body-here s c (bodyOf t marks))
-      ∙ ⊎-elim (λ (h : 4 < length marks). rw (lt-ltb 4 (length marks) h)) (λ (z : marks ≡ []). none z) (may .all e)
+      ap (λ (y : Body). cond (ltb nearMarks (length (y .marks))) (getD (y .marks) k 0) 0) (body-here s c (bodyOf t marks))
+      ∙ ⊎-elim (λ (h : nearMarks < length marks). rw (lt-ltb nearMarks (length marks) h)) (λ (z : marks ≡ []). none z) (may .all e)
     where
-      none : marks ≡ [] → cond (ltb 4 (length marks)) (getD marks k 0) 0 ≡ getD marks k 0
+      none : marks ≡ [] → cond (ltb nearMarks (length marks)) (getD marks k 0) 0 ≡ getD marks k 0
       none z = rw z refl
 
   -- the writes of the code: the first four marks, all marks where the second part holds any, the type
   module _
-      (w w₁ w₂ w₃ : List ℕ) (p : Pic w caps s) (near : Fills Near caps c marks w 4 w₁) (two : Fars far caps c marks w₁ w₂)
+      (w w₁ w₂ w₃ : List ℕ) (p : Pic w caps s) (near : Fills Near caps c marks w nearMarks w₁) (two : Fars far caps c marks w₁ w₂)
       (e : w₃ ≡ written w₂ caps (InCell c Code) t)
     where
       size : room (caps .marks) (caps .cells) ≤ length w₂
@@ -222,7 +223,7 @@ module _ (caps : Caps) (s : State) (c t : ℕ) (marks : List ℕ) (far : Bool) (
               untouched (InMark v f) i (λ g q y. absurd (omega (arith, ap cellOf q))) (mark-same caps s c (may .loose) (bodyOf t marks) v f)
           at (InCell d f) i = cell d f i (ℕ-discrete d c)
 
-pub body-step : (caps : Caps) (c t : ℕ) (marks : List ℕ) (far : Bool) (w w₁ w₂ w₃ : List ℕ) → Fills Near caps c marks w 4 w₁ → Fars far caps c marks w₁ w₂
+pub body-step : (caps : Caps) (c t : ℕ) (marks : List ℕ) (far : Bool) (w w₁ w₂ w₃ : List ℕ) → Fills Near caps c marks w nearMarks w₁ → Fars far caps c marks w₁ w₂
     → w₃ ≡ written w₂ caps (InCell c Code) t → Step caps w w₃ (MayWrite caps c marks far) (λ s. withBody s c (bodyOf t marks))
 unfolding after
 body-step caps c t marks far w w₁ w₂ w₃ near two e = record {
@@ -231,7 +232,7 @@ body-step caps c t marks far w w₁ w₂ w₃ near two e = record {
 }
 
 -- the second part, as the code goes
-pub fars-yes : (far : Bool) (caps : Caps) (c : ℕ) (marks w w′ : List ℕ) → Fills Far caps c marks w 8 w′ → far ≡ true → Fars far caps c marks w w′
+pub fars-yes : (far : Bool) (caps : Caps) (c : ℕ) (marks w w′ : List ℕ) → Fills Far caps c marks w mostMarks w′ → far ≡ true → Fars far caps c marks w w′
 fars-yes far caps c marks w w′ a y = record { inside = a .inside; wrote = λ _. a .wrote; kept = λ z i ne. a .kept z i (ne y) }
 
 pub fars-no : (far : Bool) (caps : Caps) (c : ℕ) (marks w : List ℕ) → far ≡ false → Fars far caps c marks w w

@@ -12,12 +12,13 @@ use lib.ListN.{getD, set, length, length-set}
 use Rattle.words.specs.Words.{Only}
 use Rattle.words.proofs.Frame.{read-same, read-other, only-none, only-then}
 use Rattle.numbers.specs.declared.Caps.{Caps}
-use Rattle.store.specs.Layout.{room}
+use Rattle.store.specs.Layout.{nearMarks, room}
 use Rattle.store.specs.Fields.{CellField, Code, Near, Sib, Link, Far, CellRest, CellFits}
 use Rattle.store.specs.Slots.{Slot, InHead, InMark, InCell, address, Within, cellOpen, writable, read, written}
 use Rattle.store.proofs.Slots.{slot-below, slot-one}
 use Rattle.store.proofs.Writes.{open-within, cell-inside, cell-outside, write-only}
 use Rattle.picture.specs.Writes.{Fills}
+use Rattle.shapes.specs.Sizes.{mostMarks}
 
 -- a word written is read at its slot, and no other slot's word changes
 module _ (w : List ℕ) (caps : Caps) (c : ℕ) (f : CellField) (y : ℕ) (may : cellOpen f ≡ true) where
@@ -82,15 +83,15 @@ numberOf (CellRest p) = 0
 
 -- the first four marks; all marks
 pub near-more : (caps : Caps) (c : ℕ) (marks w w′ w″ : List ℕ) (n x : ℕ) → Fills Near caps c marks w n w′ → x ≡ getD marks n 0
-    → w″ ≡ written w′ caps (InCell c (Near n)) x → n < 4 → Fills Near caps c marks w (n + 1) w″
+    → w″ ≡ written w′ caps (InCell c (Near n)) x → n < nearMarks → Fills Near caps c marks w (n + 1) w″
 unfolding cellOpen numberOf
 near-more caps c marks w w′ w″ n x a e q h =
-    fills-more Near caps c marks w w′ w″ n x a e q (λ k l. lt-ltb k 4 (omega arith)) (λ k l. omega arith)
+    fills-more Near caps c marks w w′ w″ n x a e q (λ k l. lt-ltb k nearMarks (omega arith)) (λ k l. omega arith)
     (λ k l z. let same : k ≡ n = ap numberOf z in omega arith)
 
 pub far-more : (caps : Caps) (c : ℕ) (marks w w′ w″ : List ℕ) (n x : ℕ) → Fills Far caps c marks w n w′ → x ≡ getD marks n 0
-    → w″ ≡ written w′ caps (InCell c (Far n)) x → n < 8 → Fills Far caps c marks w (n + 1) w″
+    → w″ ≡ written w′ caps (InCell c (Far n)) x → n < mostMarks → Fills Far caps c marks w (n + 1) w″
 unfolding cellOpen numberOf
 far-more caps c marks w w′ w″ n x a e q h =
-    fills-more Far caps c marks w w′ w″ n x a e q (λ k l. lt-ltb k 8 (omega arith)) (λ k l. omega arith)
+    fills-more Far caps c marks w w′ w″ n x a e q (λ k l. lt-ltb k mostMarks (omega arith)) (λ k l. omega arith)
     (λ k l z. let same : k ≡ n = ap numberOf z in omega arith)

@@ -12,11 +12,12 @@ use Rattle.store.specs.Slots.{Slot, address, Within, read}
 use Rattle.store.proofs.Slots.{slot-below, slot-one}
 use Rattle.picture.specs.State.{State}
 use Rattle.picture.specs.Picture.{wordOf, Pic}
+use Rattle.numbers.specs.Sizes.{mostCapacity}
 
 -- at each slot of Q the word is that of the state
 pub record Shows (w : List ℕ) (caps : Caps) (s : State) (Q : Slot → Type 0) : Type 0 where
-  pub marks : caps .marks ≤ 65535
-  pub cells : caps .cells ≤ 65535
+  pub marks : caps .marks ≤ mostCapacity
+  pub cells : caps .cells ≤ mostCapacity
   pub fits : room (caps .marks) (caps .cells) ≤ length w
   pub words : (z : Slot) → Within (caps .marks) (caps .cells) z → Q z → read w caps z ≡ wordOf caps s z
 

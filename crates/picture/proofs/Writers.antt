@@ -1,5 +1,5 @@
 -- The writers of single words: each changes the state in its own place, and no other word.
-use mathlib.Core.Path.{_≡_, refl, sym, ap, ap₂, _∙_}
+use mathlib.Core.Path.{_≡_, refl, sym, ap, ap₂, _∙_, subst}
 use mathlib.Core.Bool.{Bool, true, false, cond, _&&_}
 use mathlib.Core.List.{List}
 use Prim.Native.Nat.{ℕ, suc, _+_, _*_, _/_, _%_, _<_, _≤_}
@@ -8,13 +8,15 @@ use borrow.Author.Tests.{eq-eqb, ne-eqb, eqb-true, lt-ltb, le-leb}
 use lib.Dec.{eqb}
 use lib.ListN.{length}
 use Rattle.numbers.specs.declared.Caps.{Caps}
-use Rattle.store.specs.Fields.{Magic, MarkCap, CellCap, Count, HeadRest, First, Held, Anchor, MarkRest, Code, Near, Sib, Link, Far, CellRest}
+use Rattle.store.specs.Fields.{Count, Anchor, Sib}
 use Rattle.store.specs.Slots.{Slot, InHead, InMark, InCell, headOpen, markOpen, cellOpen, writable, written, Within}
 use Rattle.picture.specs.State.{State}
-use Rattle.picture.specs.Picture.{chainOf, ahead, link, corner, linkWord, headWord, markWord, cellWord, wordOf, Pic}
+use Rattle.picture.specs.Picture.{headWord, markWord, cellWord, wordOf}
 use Rattle.picture.specs.Changes.{withSib, withAnc, withCount}
 use Rattle.picture.specs.Step.{Step}
 use Rattle.picture.proofs.Put.{put-step}
+use Rattle.picture.proofs.Alike.{word-retold}
+use Rattle.shapes.specs.Sizes.{mostCode, mostFacets}
 
 -- a number put under another key is not seen
 kept : (a b x y : ℕ) → (b ≡ a → ⊥) → cond (eqb a b) x y ≡ y
@@ -26,28 +28,16 @@ module _ (caps : Caps) (s : State) (t x : ℕ) where
   count-here = rw (eq-eqb t t refl)
 
   count-other : (z : Slot) → (z ≡ InHead (Count t) → ⊥) → wordOf caps (withCount s t x) z ≡ wordOf caps s z
-  unfolding withCount wordOf headWord markWord cellWord link ahead chainOf corner linkWord
-  count-other (InHead Magic) ne = refl
-  count-other (InHead MarkCap) ne = refl
-  count-other (InHead CellCap) ne = refl
-  count-other (InHead (Count u)) ne = kept t u x (s .count u) (λ e. ne (ap (λ (n : ℕ). InHead (Count n)) e))
-  count-other (InHead (HeadRest k)) ne = refl
-  count-other (InMark v First) ne = refl
-  count-other (InMark v Held) ne = refl
-  count-other (InMark v (Anchor d)) ne = refl
-  count-other (InMark v (MarkRest k)) ne = refl
-  count-other (InCell c Code) ne = refl
-  count-other (InCell c (Near k)) ne = refl
-  count-other (InCell c (Sib f)) ne = refl
-  count-other (InCell c (Link k)) ne = refl
-  count-other (InCell c (Far k)) ne = refl
-  count-other (InCell c (CellRest p)) ne = refl
+  unfolding withCount
+  count-other z ne =
+      word-retold caps s (s .sib) (s .anc) (withCount s t x .count) z (λ c f e. refl) (λ d v e. refl)
+      (λ u e. kept t u x (s .count u) (λ q. ne (e ∙ ap (λ (n : ℕ). InHead (Count n)) q)))
 
 pub count-step : (caps : Caps) (w w′ : List ℕ) (t x : ℕ) → w′ ≡ written w caps (InHead (Count t)) x
-    → Step caps w w′ (λ s. (1 ≤ t) × (t ≤ 7)) (λ s. withCount s t x)
+    → Step caps w w′ (λ s. (1 ≤ t) × (t ≤ mostCode)) (λ s. withCount s t x)
 unfolding writable headOpen
 count-step caps w w′ t x e =
-    put-step caps w w′ (InHead (Count t)) x (λ s. (1 ≤ t) × (t ≤ 7)) (λ s. withCount s t x) e (λ s k. rw (le-leb 1 t (k .0), le-leb t 7 (k .1)) refl)
+    put-step caps w w′ (InHead (Count t)) x (λ s. (1 ≤ t) × (t ≤ mostCode)) (λ s. withCount s t x) e (λ s k. rw (le-leb 1 t (k .0), le-leb t mostCode (k .1)) refl)
     (λ s k. count-here caps s t x) (λ s k z in-z. count-other caps s t x z)
 
 module _ (caps : Caps) (s : State) (d v x : ℕ) where
@@ -56,23 +46,14 @@ module _ (caps : Caps) (s : State) (d v x : ℕ) where
   anchor-here = rw (eq-eqb d d refl, eq-eqb v v refl)
 
   anchor-other : (z : Slot) → (z ≡ InMark v (Anchor d) → ⊥) → wordOf caps (withAnc s d v x) z ≡ wordOf caps s z
-  unfolding withAnc wordOf headWord markWord cellWord link ahead chainOf corner linkWord
-  anchor-other (InHead f) ne = refl
-  anchor-other (InMark u First) ne = refl
-  anchor-other (InMark u Held) ne = refl
-  anchor-other (InMark u (Anchor e)) ne = go (eqb d e) refl (eqb v u) refl
+  unfolding withAnc
+  anchor-other z ne =
+      word-retold caps s (s .sib) (withAnc s d v x .anc) (s .count) z (λ c f e. refl) (λ e u q. go e u q (eqb d e) refl (eqb v u) refl) (λ t e. refl)
     where
-      go : (p : Bool) → eqb d e ≡ p → (q : Bool) → eqb v u ≡ q → cond (p && q) x (s .anc e u) ≡ s .anc e u
-      go true p true q = absurd (ne (ap₂ (λ (n k : ℕ). InMark n (Anchor k)) (sym (eqb-true v u q)) (sym (eqb-true d e p))))
-      go true p false q = refl
-      go false p t q = refl
-  anchor-other (InMark u (MarkRest k)) ne = refl
-  anchor-other (InCell c Code) ne = refl
-  anchor-other (InCell c (Near k)) ne = refl
-  anchor-other (InCell c (Sib f)) ne = refl
-  anchor-other (InCell c (Link k)) ne = refl
-  anchor-other (InCell c (Far k)) ne = refl
-  anchor-other (InCell c (CellRest p)) ne = refl
+      go : (e u : ℕ) → z ≡ InMark u (Anchor e) → (p : Bool) → eqb d e ≡ p → (q : Bool) → eqb v u ≡ q → cond (p && q) x (s .anc e u) ≡ s .anc e u
+      go e u y true p true q = absurd (ne (y ∙ ap₂ (λ (n k : ℕ). InMark n (Anchor k)) (sym (eqb-true v u q)) (sym (eqb-true d e p))))
+      go e u y true p false q = refl
+      go e u y false p t q = refl
 
 pub anchor-step : (caps : Caps) (w w′ : List ℕ) (d v x : ℕ) → w′ ≡ written w caps (InMark v (Anchor d)) x
     → Step caps w w′ (λ s. (v < caps .marks) × (1 ≤ d) × (d ≤ 3)) (λ s. withAnc s d v x)
@@ -88,24 +69,18 @@ module _ (caps : Caps) (s : State) (h x : ℕ) where
   sib-here = let same : h ≡ 8 * (h / 8) + h % 8 = omega arith in rw (eq-eqb h (8 * (h / 8) + h % 8) same)
 
   sib-other : (z : Slot) → Within (caps .marks) (caps .cells) z → (z ≡ InCell (h / 8) (Sib (h % 8)) → ⊥) → wordOf caps (withSib s h x) z ≡ wordOf caps s z
-  unfolding withSib wordOf headWord markWord cellWord link ahead chainOf corner linkWord
-  sib-other (InHead f) i ne = refl
-  sib-other (InMark u First) i ne = refl
-  sib-other (InMark u Held) i ne = refl
-  sib-other (InMark u (Anchor e)) i ne = refl
-  sib-other (InMark u (MarkRest k)) i ne = refl
-  sib-other (InCell c Code) i ne = refl
-  sib-other (InCell c (Near k)) i ne = refl
-  sib-other (InCell c (Sib f)) i ne =
-      kept h (8 * c + f) x (s .sib (8 * c + f))
-      (λ e. ne (ap₂ (λ (n k : ℕ). InCell n (Sib k)) (omega (arith, i .1)) (omega (arith, i .1))))
-  sib-other (InCell c (Link k)) i ne = refl
-  sib-other (InCell c (Far k)) i ne = refl
-  sib-other (InCell c (CellRest p)) i ne = refl
+  unfolding withSib
+  sib-other z i ne = word-retold caps s (withSib s h x .sib) (s .anc) (s .count) z (λ c f e. other c f e) (λ d v e. refl) (λ t e. refl)
+    where
+      other : (c f : ℕ) → z ≡ InCell c (Sib f) → withSib s h x .sib (8 * c + f) ≡ s .sib (8 * c + f)
+      other c f e =
+          let less = subst (Within (caps .marks) (caps .cells)) e i .1 in
+          kept h (8 * c + f) x (s .sib (8 * c + f))
+          (λ q. ne (e ∙ ap₂ (λ (n k : ℕ). InCell n (Sib k)) (omega (arith, less)) (omega (arith, less))))
 
 pub sib-step : (caps : Caps) (w w′ : List ℕ) (h x : ℕ) → w′ ≡ written w caps (InCell (h / 8) (Sib (h % 8))) x
-    → Step caps w w′ (λ s. (h / 8 < caps .cells) × (h % 8 < 6)) (λ s. withSib s h x)
+    → Step caps w w′ (λ s. (h / 8 < caps .cells) × (h % 8 < mostFacets)) (λ s. withSib s h x)
 unfolding writable cellOpen
 sib-step caps w w′ h x e =
-    put-step caps w w′ (InCell (h / 8) (Sib (h % 8))) x (λ s. (h / 8 < caps .cells) × (h % 8 < 6)) (λ s. withSib s h x) e
-    (λ s k. rw (lt-ltb (h / 8) (caps .cells) (k .0), lt-ltb (h % 8) 6 (k .1)) refl) (λ s k. sib-here caps s h x) (λ s k. sib-other caps s h x)
+    put-step caps w w′ (InCell (h / 8) (Sib (h % 8))) x (λ s. (h / 8 < caps .cells) × (h % 8 < mostFacets)) (λ s. withSib s h x) e
+    (λ s k. rw (lt-ltb (h / 8) (caps .cells) (k .0), lt-ltb (h % 8) mostFacets (k .1)) refl) (λ s k. sib-here caps s h x) (λ s k. sib-other caps s h x)

@@ -8,7 +8,7 @@ use lib.ListN.{getD, length}
 use Rattle.lists.specs.Lists.{select, keep, place}
 use Rattle.numbers.specs.declared.Caps.{Caps}
 use Rattle.numbers.specs.Sizes.{mostCapacity}
-use Rattle.store.specs.Layout.{magic, room}
+use Rattle.store.specs.Layout.{nearMarks, magic, room}
 use Rattle.store.specs.Fields.{HeadField, Magic, MarkCap, CellCap, Count, HeadRest, MarkField, First, Held, Anchor, MarkRest, CellField, Code, Near, Sib, Link, Far, CellRest}
 use Rattle.store.specs.Slots.{Slot, InHead, InMark, InCell, Within, read}
 use Rattle.map.specs.Cells.{Body, Map}
@@ -59,7 +59,7 @@ cellWord caps s c Code = s .at c .code
 cellWord caps s c (Near k) = corner s c k
 cellWord caps s c (Sib f) = s .sib (8 * c + f)
 cellWord caps s c (Link k) = linkWord caps s c k
-cellWord caps s c (Far k) = cond (ltb 4 (length (s .at c .marks))) (corner s c k) 0
+cellWord caps s c (Far k) = cond (ltb nearMarks (length (s .at c .marks))) (corner s c k) 0
 cellWord caps s c (CellRest p) = 0
 
 unfoldable pub wordOf : Caps → State → Slot → ℕ

@@ -11,10 +11,14 @@ ghost use Rattle.store.specs.Fields.{Near};
 ghost use Rattle.picture.specs.Changes.{withBody, withSib, withAnc, withCount};
 ghost use Rattle.picture.specs.Step.{Step};
 ghost use Rattle.picture.specs.Writes.{MayWrite, Fills, Fars};
+ghost use Rattle.shapes.specs.Sizes.{mostCode, mostFacets};
+ghost use Rattle.store.specs.Layout.{nearMarks};
 use numbers::Caps;
 use numbers::Cell;
 use numbers::Half;
 use numbers::Mark;
+use shapes::MOST_MARKS;
+use store::NEAR_MARKS;
 use store::write_anchor;
 use store::write_code;
 use store::write_count;
@@ -32,24 +36,24 @@ pub fn put_anchor(w: &mut [u32], caps: Caps, d: u32, v: Mark, x: u32)
 
 // The count of live cells of a type.
 pub fn put_count(w: &mut [u32], caps: Caps, t: u32, x: u32)
-    ensures { λ _. ⌜ Step caps (now (w .entry)) (now (w .exit)) (λ s. (1 ≤ t) × (t ≤ 7)) (λ s. withCount s t x) ⌝ }
+    ensures { λ _. ⌜ Step caps (now (w .entry)) (now (w .exit)) (λ s. (1 ≤ t) × (t ≤ mostCode)) (λ s. withCount s t x) ⌝ }
 {
     write_count(w, caps, t, x);
 }
 
 // The sibling of a half-facet.
 pub fn put_sibling(w: &mut [u32], caps: Caps, h: Half, x: Half)
-    ensures { λ _. ⌜ Step caps (now (w .entry)) (now (w .exit)) (λ s. (h .0 / 8 < caps .cells) × (h .0 % 8 < 6)) (λ s. withSib s (h .0) (x .0)) ⌝ }
+    ensures { λ _. ⌜ Step caps (now (w .entry)) (now (w .exit)) (λ s. (h .0 / 8 < caps .cells) × (h .0 % 8 < mostFacets)) (λ s. withSib s (h .0) (x .0)) ⌝ }
 {
     write_sibling(w, caps, h, x);
 }
 
 // The first four marks of a cell.
 fn put_near(w: &mut [u32], caps: Caps, c: Cell, marks: &[u32])
-    ensures { λ _. ⌜ Fills Near caps (c .0) (now (marks .entry)) (now (w .entry)) 4 (now (w .exit)) ⌝ }
+    ensures { λ _. ⌜ Fills Near caps (c .0) (now (marks .entry)) (now (w .entry)) nearMarks (now (w .exit)) ⌝ }
 {
     let mut k: u32 = 0;
-    while k < 4 {
+    while k < NEAR_MARKS {
         write_near(w, caps, c, k, word(marks, k as usize));
         k += 1;
     }
@@ -63,7 +67,7 @@ fn put_far(w: &mut [u32], caps: Caps, c: Cell, marks: &[u32], far: bool)
         return;
     }
     let mut k: u32 = 0;
-    while k < 8 {
+    while k < MOST_MARKS {
         write_far(w, caps, c, k, word(marks, k as usize));
         k += 1;
     }

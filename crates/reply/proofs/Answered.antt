@@ -9,7 +9,7 @@ use lib.Dec.{leb, ltb}
 use lib.ListN.{length, take, drop, length-take, length-append}
 use lib.Seq.{take-append-seam}
 use Rattle.lists.proofs.Bools.{or-left, or-right}
-use Rattle.numbers.specs.Sizes.{capacities}
+use Rattle.numbers.specs.Sizes.{mostCapacity, mostAround, capacities}
 use Rattle.numbers.specs.Room.{room}
 use Rattle.words.specs.Words.{partOf}
 use Rattle.words.proofs.Fits.{part-fits}
@@ -90,7 +90,7 @@ module _ (w o : List ℕ) (at r : ℕ) (o′ : List ℕ) where
     unfolding answer formatChecks _when_ verdictSays given room
     format-accepts v a b h e =
         verdict-one v Accepted
-        (e ∙ rw (le-ltb 65535 marks (omega arith), le-ltb 65535 cells (omega arith), le-ltb (length w) (room marks cells) (omega arith)))
+        (e ∙ rw (le-ltb mostCapacity marks (omega arith), le-ltb mostCapacity cells (omega arith), le-ltb (length w) (room marks cells) (omega arith)))
 
     pub format-replied : (v : Verdict) (w′ : List ℕ) → marks ≤ 384 → cells ≤ 384 → Formatted w (capacities marks cells) v w′ → Appended (written (verdictSays v)) o at r o′
         → FrameAnswered (Format marks cells) w o at r w′ o′
@@ -123,7 +123,7 @@ module _ (w o : List ℕ) (at r : ℕ) (o′ : List ℕ) where
   bad-replied a = replied-so Bad w (Refused BadFrame) a (λ m k. (reply-bad m, k))
 
   -- a query leaves the words
-  module _ (d v : ℕ) (zeros out : List ℕ) (value : Value) (size : length zeros ≡ 128) where
+  module _ (d v : ℕ) (zeros out : List ℕ) (value : Value) (size : length zeros ≡ mostAround) where
     pub star-refused : Listing w (λ m. starChecks m d v) (λ m. star m d v) zeros value out → (why : Refusal) → value ≡ Value′.Refused why
         → Appended (written (verdictSays (Refused why))) o at r o′ → FrameAnswered (Star d v) w o at r w o′
     unfolding mapAfter starAnswer verdictSays valueSays
@@ -140,7 +140,7 @@ module _ (w o : List ℕ) (at r : ℕ) (o′ : List ℕ) where
       k,
     ))
 
-    module _ (n : ℕ) (e : value ≡ Value′.Is n) (list : List ℕ) (from : ℕ) (first : from ≡ 0) (q : list ≡ partOf out from n) (few : length out ≤ 128) where
+    module _ (n : ℕ) (e : value ≡ Value′.Is n) (list : List ℕ) (from : ℕ) (first : from ≡ 0) (q : list ≡ partOf out from n) (few : length out ≤ mostAround) where
       p : list ≡ partOf out 0 n
       p = rw first at q
 
@@ -149,7 +149,7 @@ module _ (w o : List ℕ) (at r : ℕ) (o′ : List ℕ) where
       unfolding mapAfter starAnswer valueSays
       star-replied l a = record {
         bytes = written (given (counted twoBytes list));
-        few = cells-room list (rw p (part-few out n 128 few));
+        few = cells-room list (rw p (part-few out n mostAround few));
         appended = a;
         answers = λ m k.
             let short : length (star m d v) ≤ length zeros = omega (arith, star-few m (k .wf .sound) d v) in
@@ -164,7 +164,7 @@ module _ (w o : List ℕ) (at r : ℕ) (o′ : List ℕ) where
       unfolding mapAfter anchorsAnswer valueSays
       anchors-replied l a = record {
         bytes = written (given (counted cellAndFacet list));
-        few = halves-room list (rw p (part-few out n 128 few));
+        few = halves-room list (rw p (part-few out n mostAround few));
         appended = a;
         answers = λ m k.
             let short : length (anchors m d v) ≤ length zeros = omega (arith, anchors-few m (k .wf .sound) d v) in

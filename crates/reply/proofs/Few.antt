@@ -18,6 +18,7 @@ use Rattle.map.specs.Stars.{holders, star, group, anchors}
 use Rattle.map.specs.Sound.{Sound}
 use Rattle.laws.proofs.Anchors.{anchors-of, anchors-one, anchors-ascend}
 use Rattle.listing.proofs.Least.{ascending-few}
+use Rattle.numbers.specs.Sizes.{mostAround}
 
 -- the cells of half-facets
 cellsIn : List ℕ → List ℕ
@@ -49,12 +50,12 @@ cells-ascend (x ∷ xs) a one =
         omega arith
 
 module _ (m : Map) (s : Sound m) (d v : ℕ) where
-  pub star-few : length (star m d v) ≤ 128
+  pub star-few : length (star m d v) ≤ mostAround
   unfolding star holders
   star-few =
       omega (arith, s .few v, select-fewer (λ c. eqb (dimensionAt m c) d && holds m v c) (holds m v) (m .caps .cells) (λ c e. and-right (eqb (dimensionAt m c) d) (holds m v c) e))
 
-  pub anchors-few : length (anchors m d v) ≤ 128
+  pub anchors-few : length (anchors m d v) ≤ mostAround
   unfolding cellsIn
   anchors-few =
       let fewer : length (cellsIn (anchors m d v)) ≤ length (star m d v) =

@@ -17,7 +17,7 @@ use Rattle.picture.specs.State.{State, mapWith, stateOf}
 use Rattle.picture.specs.Picture.{Pic}
 use Rattle.picture.specs.Changes.{withAnc}
 use Rattle.picture.specs.Ready.{Ready, Settled}
-use Rattle.picture.proofs.Alike.{withAncs, pic-ancs, state-same}
+use Rattle.picture.proofs.Alike.{retold, pic-retold, state-same}
 use Rattle.settle.specs.Settle.{among, settled}
 use Rattle.settle.specs.Sibs.{Sibs}
 use Rattle.settle.specs.Ancs.{Ancs, threeAncs}
@@ -67,7 +67,8 @@ module _ (caps : Caps) (s : State) where
 pub settled-pic : (w : List ℕ) (caps : Caps) (s s′ s″ : State) → Sibs caps s s′ [] → Ancs caps s′ s″ [] → Pic w caps s″ → Pic w caps (settled caps s)
 unfolding settled has among any
 settled-pic w caps s s′ s″ p q pic =
-    subst (λ (x : State). Pic w caps x) fields (pic-ancs caps s″ (stateOf (mapWith caps s) .anc) ancs w pic)
+    subst (λ (x : State). Pic w caps x) fields
+    (pic-retold caps s″ (s″ .sib) (stateOf (mapWith caps s) .anc) (s″ .count) (λ c f h. refl) (λ d v h. ancs d v (h .1 .0) (h .1 .1)) (λ t h. refl) w pic)
   where
     maps : mapWith caps s′ ≡ mapWith caps s
     maps = same-map caps s s′ (p .at)
@@ -78,7 +79,7 @@ settled-pic w caps s s′ s″ p q pic =
     sibs : (h : ℕ) → s′ .sib h ≡ stateOf (mapWith caps s) .sib h
     sibs h = p .right h (and-false (isHalf (mapWith caps s) h))
 
-    fields : withAncs s″ (stateOf (mapWith caps s) .anc) ≡ settled caps s
+    fields : retold s″ (s″ .sib) (stateOf (mapWith caps s) .anc) (s″ .count) ≡ settled caps s
     fields =
-        state-same (withAncs s″ (stateOf (mapWith caps s) .anc)) (settled caps s) (q .at ∙ p .at) (q .chain ∙ p .chain)
+        state-same (retold s″ (s″ .sib) (stateOf (mapWith caps s) .anc) (s″ .count)) (settled caps s) (q .at ∙ p .at) (q .chain ∙ p .chain)
         (q .sib ∙ fun-ext sibs) refl (q .count ∙ p .count)

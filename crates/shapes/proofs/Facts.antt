@@ -14,10 +14,11 @@ use Rattle.lists.proofs.Members.{all-at, all-get}
 use Rattle.lists.proofs.Below.{allBelow, below-at}
 use Rattle.shapes.specs.Shapes.{Shape, noShape, bar, tri, quad, tetra, shapes, shape}
 use Rattle.shapes.specs.Facts.{Facts, facetAt, dimensionOf}
+use Rattle.shapes.specs.Sizes.{mostFacets, mostMarks, mostCorners}
 
 -- a facet alone: few corners, each a place of the marks, distinct
 facetTests : ℕ → List ℕ → List Bool
-facetTests marks ps = leb (length ps) 4 ∷ all (λ p. ltb p marks) ps ∷ not (repeats ps) ∷ []
+facetTests marks ps = leb (length ps) mostCorners ∷ all (λ p. ltb p marks) ps ∷ not (repeats ps) ∷ []
 
 -- the facets of a type together
 sized : Shape → ℕ → Bool
@@ -34,8 +35,8 @@ facetTest marks ps = all (λ b. b) (facetTests marks ps)
 
 tests : Shape → List Bool
 tests s =
-    leb (length (s .facets)) 6
-    ∷ leb (s .marks) 8
+    leb (length (s .facets)) mostFacets
+    ∷ leb (s .marks) mostMarks
     ∷ all (facetTest (s .marks)) (s .facets)
     ∷ allBelow (length (s .facets)) (sized s)
     ∷ allBelow (s .marks) (cornered s)

@@ -22,6 +22,9 @@ pub const MOST_FACETS: u32 = 6;
 
 pub const MOST_CORNERS: u32 = 4;
 
+// No facet has this number: the answer where none is found.
+pub const NO_FACET: u32 = 8;
+
 // A facet's row of the table: the count of its corners, then their places.
 const COLUMNS: u32 = 5;
 

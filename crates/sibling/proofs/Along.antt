@@ -34,21 +34,22 @@ use Rattle.facet.specs.Facet.{matchAt}
 use Rattle.sibling.specs.Halves.{halvesOf}
 use Rattle.lists.proofs.Mapped.{map-ascends}
 use Rattle.laws.proofs.Facets.{one-match}
+use Rattle.shapes.specs.Sizes.{noFacet}
 
 module _ (m : Map) (set : List ℕ) where
   -- a match is a facet of the cell with the set of marks
-  pub match-is : (c : ℕ) → matchAt m set c < 8
+  pub match-is : (c : ℕ) → matchAt m set c < noFacet
       → (matchAt m set c < length (facetsAt m c)) × (sameSet set (getD (facetsAt m c) (matchAt m set c) []) ≡ true)
   unfolding matchAt
   match-is c h =
       ⊎-elim (λ e. absurd (omega arith)) (λ e. select-out (λ f. sameSet set (getD (facetsAt m c) f [])) (length (facetsAt m c)) _ e)
-      (first-either 8 (select (λ f. sameSet set (getD (facetsAt m c) f [])) (length (facetsAt m c))))
+      (first-either noFacet (select (λ f. sameSet set (getD (facetsAt m c) f [])) (length (facetsAt m c))))
 
   -- and in a sound map the only one
   pub is-match : Sound m → (c f : ℕ) → f < length (facetsAt m c) → sameSet set (getD (facetsAt m c) f []) ≡ true → matchAt m set c ≡ f
   unfolding matchAt
   is-match o c f h e =
-      first-select 8 (λ f. sameSet set (getD (facetsAt m c) f [])) (length (facetsAt m c)) f h e
+      first-select noFacet (λ f. sameSet set (getD (facetsAt m c) f [])) (length (facetsAt m c)) f h e
       (λ j l. not-true-false _ (λ q.
       let same : j ≡ f = one-match m o c j f (omega arith) h (same-trans _ set _ (same-sym set _ q) e) in
       omega arith))
@@ -57,9 +58,9 @@ module _ (m : Map) (set : List ℕ) where
 pub halves-ascend : (match : ℕ → ℕ) (cells : List ℕ) → Ascending cells → Ascending (halvesOf match cells)
 unfolding halvesOf halfOf
 halves-ascend match cells a =
-    map-ascends _ _ (keep-ascends (λ c. ltb (match c) 8) cells a)
+    map-ascends _ _ (keep-ascends (λ c. ltb (match c) noFacet) cells a)
     (λ x y h k l.
-    let small : match x < 8 = ltb-true _ _ (keep-out (λ c. ltb (match c) 8) cells x h .0) in
+    let small : match x < noFacet = ltb-true _ _ (keep-out (λ c. ltb (match c) noFacet) cells x h .0) in
     omega arith)
 
 -- cells of the map, among them all that hold the first mark of the set
@@ -75,8 +76,8 @@ module _ (m : Map) (o : Sound m) (set cells : List ℕ) (some : 0 < length set) 
       let mark : has (getD set 0 0) (marksOf m h) ≡ true = sym (same-has set (marksOf m h) (x .1) (getD set 0 0)) ∙ at-has set 0 some in
       let below : c < m .caps .cells = omega (arith, x .0 .below) in
       let there : has c cells ≡ true = full c below (half-inside m (o .fitting) h (getD set 0 0) mark) in
-      let kept : has c (keep (λ c. ltb (matchAt m set c) 8) cells) ≡ true =
-      keep-in (λ c. ltb (matchAt m set c) 8) cells c (lt-ltb (matchAt m set c) 8 (omega arith)) there in
+      let kept : has c (keep (λ c. ltb (matchAt m set c) noFacet) cells) ≡ true =
+      keep-in (λ c. ltb (matchAt m set c) noFacet) cells c (lt-ltb (matchAt m set c) noFacet (omega arith)) there in
       let half : halfOf c (matchAt m set c) ≡ h = rw match (half-whole h) in
       rw half at (map-has (λ c. halfOf c (matchAt m set c)) _ c kept)
 
@@ -84,11 +85,11 @@ module _ (m : Map) (o : Sound m) (set cells : List ℕ) (some : 0 < length set) 
   has-along : (h : ℕ) → has h (halvesOf (matchAt m set) cells) ≡ true → has h (sharers m set) ≡ true
   unfolding halvesOf halfOf
   has-along h e =
-      let kept : List ℕ = keep (λ c. ltb (matchAt m set c) 8) cells in
+      let kept : List ℕ = keep (λ c. ltb (matchAt m set c) noFacet) cells in
       let r = map-at (λ c. halfOf c (matchAt m set c)) kept h e in
       let c : ℕ = getD kept (r .0) 0 in
-      let out = keep-out (λ c. ltb (matchAt m set c) 8) cells c (at-has kept (r .0) (r .1)) in
-      let small : matchAt m set c < 8 = ltb-true _ _ (out .0) in
+      let out = keep-out (λ c. ltb (matchAt m set c) noFacet) cells c (at-has kept (r .0) (r .1)) in
+      let small : matchAt m set c < noFacet = ltb-true _ _ (out .0) in
       let x = match-is m set c small in
       let half = half-facet m c (matchAt m set c) (x .0) in
       let below : c < m .caps .cells = within c (out .1) in

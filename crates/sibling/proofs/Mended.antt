@@ -26,6 +26,8 @@ use Rattle.picture.specs.Changes.{withSib}
 use Rattle.picture.specs.Step.{Step}
 use Rattle.sibling.specs.Shared.{Shared, MayMend, mended}
 use Rattle.laws.proofs.Facets.{facets-count}
+use Rattle.numbers.specs.Sizes.{mostAround}
+use Rattle.shapes.specs.Sizes.{mostFacets}
 
 -- the first i half-facets of a list lead to the next of it
 unfoldable pub ledTo : List ℕ → ℕ → State → State
@@ -80,7 +82,7 @@ listed-at l o n o′ c h i k =
 
 -- a half-facet that shares the set has a sibling's word
 pub sharer-word : (caps : Caps) (s : State) (set : List ℕ) (h : ℕ) → has h (sharers (mapWith caps s) set) ≡ true
-    → (h / 8 < caps .cells) × (h % 8 < 6)
+    → (h / 8 < caps .cells) × (h % 8 < mostFacets)
 unfolding mapWith isHalf
 sharer-word caps s set h e =
     let x = sharers-has (mapWith caps s) set h e in (
@@ -97,9 +99,9 @@ module _ (caps : Caps) (rows : List (List (List ℕ))) (set w : List ℕ) where
   pub mend-start : Step caps w w (MayMend caps rows set) (mendedTo caps set 0)
   mend-start = record { inside = only-none; state = λ s p ok. rw led-none p }
 
-  pub mend-more : (o halves : List ℕ) (n i to h x : ℕ) (w′ w″ : List ℕ) → Shared w caps rows set o n halves → length o ≡ 128
+  pub mend-more : (o halves : List ℕ) (n i to h x : ℕ) (w′ w″ : List ℕ) → Shared w caps rows set o n halves → length o ≡ mostAround
       → Step caps w w′ (MayMend caps rows set) (mendedTo caps set i) → i < n → NextAt n i to → h ≡ getD halves i 0 → x ≡ getD halves to 0
-      → Step caps w′ w″ (λ s. (h / 8 < caps .cells) × (h % 8 < 6)) (λ s. withSib s h x)
+      → Step caps w′ w″ (λ s. (h / 8 < caps .cells) × (h % 8 < mostFacets)) (λ s. withSib s h x)
       → Step caps w w″ (MayMend caps rows set) (mendedTo caps set (i + 1))
   mend-more o halves n i to h x w′ w″ shared size was less place eh ex put = record {
     inside = only-then (was .inside) (put .inside);

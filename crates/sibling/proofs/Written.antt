@@ -15,7 +15,7 @@ use Rattle.lists.proofs.Fill.{fill-start, fill-more}
 use Rattle.lists.proofs.Keep.{keep-out}
 use Rattle.lists.proofs.Alike.{keep-same}
 use Rattle.lists.proofs.Select.{select-out}
-use Rattle.numbers.specs.Half.{halfOf}
+use Rattle.numbers.specs.Half.{cut, halfOf}
 use Rattle.numbers.proofs.Inverse.{half-uncut}
 use Rattle.numbers.specs.declared.Caps.{Caps}
 use Rattle.map.specs.Siblings.{sharers}
@@ -31,6 +31,8 @@ use Rattle.lists.proofs.Mapped.{map-same, keep-end}
 use Rattle.chain.proofs.Readied.{ready-linked}
 use Rattle.facet.proofs.Read.{match-read}
 use Rattle.sibling.proofs.Along.{sharers-along}
+use Rattle.shapes.specs.Sizes.{noFacet}
+use Rattle.numbers.specs.Sizes.{pastCells}
 
 module _ (match : ℕ → ℕ) (cells o : List ℕ) where
   pub write-start : Copied (halvesCut match (take 0 cells)) o 0 o
@@ -44,33 +46,33 @@ module _ (match : ℕ → ℕ) (cells o : List ℕ) where
     one-more = rw (add-one i, cell) (take-suc cells i 0 h)
 
     -- the cell has a match: its half-facet is written behind the others
-    pub write-more : (o″ : List ℕ) (x : ℕ) → f < 8 → x ≡ halfOf (c % 65536) (f % 8) → o″ ≡ set o′ n x
+    pub write-more : (o″ : List ℕ) (x : ℕ) → f < noFacet → x ≡ halfOf (cut c) (f % 8) → o″ ≡ set o′ n x
         → Copied (halvesCut match (take (i + 1) cells)) o (n + 1) o″
     unfolding halvesCut
     write-more o″ x l half put =
-        rw (one-more, keep-end (λ c. ltb (match c) 8) (take i cells) c, ← facet, lt-ltb f 8 l, map-append, ← facet, ← half, put)
+        rw (one-more, keep-end (λ c. ltb (match c) noFacet) (take i cells) c, ← facet, lt-ltb f noFacet l, map-append, ← facet, ← half, put)
         (record {
           count = rw length-append (omega (arith, was .count));
           filled = fill-more (halvesCut match (take i cells)) o o′ n x (was .filled) (was .count);
         })
 
     -- it has none: nothing is written
-    pub write-none : 8 ≤ f → Copied (halvesCut match (take (i + 1) cells)) o n o′
+    pub write-none : noFacet ≤ f → Copied (halvesCut match (take (i + 1) cells)) o n o′
     unfolding halvesCut
-    write-none l = rw (one-more, keep-end (λ c. ltb (match c) 8) (take i cells) c, ← facet, le-ltb f 8 l, append-nil) was
+    write-none l = rw (one-more, keep-end (λ c. ltb (match c) noFacet) (take i cells) c, ← facet, le-ltb f noFacet l, append-nil) was
 
 -- for cells of the outline nothing is cut off
-pub halves-uncut : (match match′ : ℕ → ℕ) (cells : List ℕ) → ((c : ℕ) → has c cells ≡ true → (c < 65536) × (match c ≡ match′ c))
+pub halves-uncut : (match match′ : ℕ → ℕ) (cells : List ℕ) → ((c : ℕ) → has c cells ≡ true → (c < pastCells) × (match c ≡ match′ c))
     → halvesCut match cells ≡ halvesOf match′ cells
 unfolding halvesCut halvesOf
 halves-uncut match match′ cells f =
-    map-same (λ c. halfOf (c % 65536) (match c % 8)) (λ c. halfOf c (match c)) (keep (λ c. ltb (match c) 8) cells)
+    map-same (λ c. halfOf (cut c) (match c % 8)) (λ c. halfOf c (match c)) (keep (λ c. ltb (match c) noFacet) cells)
     (λ c h.
-    let r = keep-out (λ c. ltb (match c) 8) cells c h in
+    let r = keep-out (λ c. ltb (match c) noFacet) cells c h in
     half-uncut c (match c) (f c (r .1) .0) (ltb-true _ _ (r .0)))
-    ∙ (ap (map (λ c. halfOf c (match c))) (keep-same (λ c. ltb (match c) 8) (λ c. ltb (match′ c) 8) cells (λ c h. ap (λ (k : ℕ). ltb k 8) (f c h .1)))
-    ∙ map-same (λ c. halfOf c (match c)) (λ c. halfOf c (match′ c)) (keep (λ c. ltb (match′ c) 8) cells)
-    (λ c h. ap (halfOf c) (f c (keep-out (λ c. ltb (match′ c) 8) cells c h .1) .1)))
+    ∙ (ap (map (λ c. halfOf c (match c))) (keep-same (λ c. ltb (match c) noFacet) (λ c. ltb (match′ c) noFacet) cells (λ c h. ap (λ (k : ℕ). ltb k noFacet) (f c h .1)))
+    ∙ map-same (λ c. halfOf c (match c)) (λ c. halfOf c (match′ c)) (keep (λ c. ltb (match′ c) noFacet) cells)
+    (λ c h. ap (halfOf c) (f c (keep-out (λ c. ltb (match′ c) noFacet) cells c h .1) .1)))
 
 -- along the gathered chain of the first mark the sharers of the set are written
 pub shared-list : (w : List ℕ) (caps : Caps) (rows : List (List (List ℕ))) (set zeros cells o : List ℕ) (v count n : ℕ) (o′ : List ℕ)

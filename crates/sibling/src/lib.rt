@@ -20,6 +20,7 @@ use numbers::half_of;
 use picture::put_sibling;
 use shapes::FacetTable;
 use shapes::MOST_CORNERS;
+use shapes::NO_FACET;
 use words::part;
 use words::put;
 use words::word;
@@ -35,7 +36,7 @@ pub fn sharers(w: &[u32], caps: Caps, rows: &FacetTable, set: &[u32], out: &mut 
     while i < count {
         let c = Cell(word(&cells, i as usize));
         let f = matching(w, caps, rows, c, set);
-        if f < 8 {
+        if f < NO_FACET {
             let half = half_of(c, f);
             put(out, n as usize, half.0);
             n += 1;

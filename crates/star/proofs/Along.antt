@@ -30,6 +30,7 @@ use Rattle.chain.specs.Chain.{Linked, Gathered}
 use Rattle.chain.proofs.Readied.{chain-holders, ready-linked}
 use Rattle.star.specs.Along.{kept}
 use Rattle.star.specs.Listed.{Gives, AtMark}
+use Rattle.numbers.specs.Sizes.{mostAround}
 
 module _ (w : List ℕ) (caps : Caps) (d : ℕ) (cells o : List ℕ) where
   test : ℕ → Bool
@@ -79,7 +80,7 @@ holder-below m v c e = select-out (holds m v) (m .caps .cells) c e .0
 
 module _ (w : List ℕ) (caps : Caps) (d v : ℕ) (zeros cells o o′ : List ℕ) (n r : ℕ) where
   -- along the chain of a mark, the cells of a dimension are the star
-  pub star-kept : (s : State) → Pic w caps s → AtMark caps v s → Gathered w caps v zeros n cells → 128 ≤ length zeros
+  pub star-kept : (s : State) → Pic w caps s → AtMark caps v s → Gathered w caps v zeros n cells → mostAround ≤ length zeros
       → kept w caps d cells n ≡ star (mapWith caps s) d v
   unfolding kept star mapWith dimensionAt
   star-kept s p a g room =
@@ -94,8 +95,8 @@ module _ (w : List ℕ) (caps : Caps) (d v : ℕ) (zeros cells o o′ : List ℕ
       held : (c : ℕ) → has c (holders (mapWith caps s) v) ≡ true → c < caps .cells
       held c e = holder-below (mapWith caps s) v c e
 
-  pub star-gives : Gathered w caps v zeros n cells → length zeros ≡ 128 → Copied (kept w caps d cells n) o r o′
-      → Gives w caps 128 (AtMark caps v) (λ m. star m d v) o r o′
+  pub star-gives : Gathered w caps v zeros n cells → length zeros ≡ mostAround → Copied (kept w caps d cells n) o r o′
+      → Gives w caps mostAround (AtMark caps v) (λ m. star m d v) o r o′
   star-gives g room f = record {
     few = omega (arith, f .count, kept-few, g .few);
     size = f .filled .size;

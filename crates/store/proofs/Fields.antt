@@ -6,6 +6,8 @@ use native.Mathlib.Nat.{not-suc-le-zero, eq-or-lt-of-le}
 use native.Mathlib.Omega.{arith}
 use mathlib.Core.Path.{subst}
 use Rattle.store.specs.Fields.{HeadField, Magic, MarkCap, CellCap, Count, HeadRest, MarkField, First, Held, Anchor, MarkRest, CellField, Code, Near, Sib, Link, Far, CellRest, Place, InNear, InFar, headPlace, headFields, headField, markPlace, markFields, markField, cellPlace, nearFields, farFields, cellField, HeadFits, MarkFits, PlaceFits, CellFits}
+use Rattle.shapes.specs.Sizes.{mostCode, mostFacets, mostMarks}
+use Rattle.store.specs.Layout.{markWords, nearMarks}
 
 -- what holds of each number below n
 Below : (ℕ → Type 0) → ℕ → Type 0
@@ -33,7 +35,7 @@ head-fits = ((((((((((((((((none, omega arith), omega arith), omega arith), (ome
 pub head-of : (k : ℕ) → k < 16 → (headPlace (headField k) ≡ k) × HeadFits (headField k)
 head-of k h = (below (λ k. headPlace (headField k) ≡ k) 16 head-places k h, below (λ k. HeadFits (headField k)) 16 head-fits k h)
 
-head-counts : Below (λ t. headField (4 + suc t) ≡ Count (suc t)) 7
+head-counts : Below (λ t. headField (4 + suc t) ≡ Count (suc t)) mostCode
 unfolding Below headField headFields
 head-counts = (((((((none, refl), refl), refl), refl), refl), refl), refl)
 
@@ -43,26 +45,26 @@ head-at Magic h = (omega arith, refl)
 head-at MarkCap h = (omega arith, refl)
 head-at CellCap h = (omega arith, refl)
 head-at (Count zero) h = absurd (omega arith)
-head-at (Count (suc t)) h = (omega arith, below (λ t. headField (4 + suc t) ≡ Count (suc t)) 7 head-counts t (omega arith))
+head-at (Count (suc t)) h = (omega arith, below (λ t. headField (4 + suc t) ≡ Count (suc t)) mostCode head-counts t (omega arith))
 head-at (HeadRest k) h = h
 
 -- a mark's record
-mark-places : Below (λ k. markPlace (markField k) ≡ k) 8
+mark-places : Below (λ k. markPlace (markField k) ≡ k) markWords
 unfolding Below markPlace markField markFields
 mark-places = ((((((((none, refl), refl), refl), refl), refl), refl), refl), refl)
 
-mark-fits : Below (λ k. MarkFits (markField k)) 8
+mark-fits : Below (λ k. MarkFits (markField k)) markWords
 unfolding Below markField markFields
 mark-fits = ((((((((none, omega arith), omega arith), (omega arith, omega arith)), (omega arith, omega arith)), (omega arith, omega arith)), (omega arith, refl)), (omega arith, refl)), (omega arith, refl))
 
-pub mark-of : (k : ℕ) → k < 8 → (markPlace (markField k) ≡ k) × MarkFits (markField k)
-mark-of k h = (below (λ k. markPlace (markField k) ≡ k) 8 mark-places k h, below (λ k. MarkFits (markField k)) 8 mark-fits k h)
+pub mark-of : (k : ℕ) → k < markWords → (markPlace (markField k) ≡ k) × MarkFits (markField k)
+mark-of k h = (below (λ k. markPlace (markField k) ≡ k) markWords mark-places k h, below (λ k. MarkFits (markField k)) markWords mark-fits k h)
 
 mark-anchors : Below (λ d. markField (1 + suc d) ≡ Anchor (suc d)) 3
 unfolding Below markField markFields
 mark-anchors = (((none, refl), refl), refl)
 
-pub mark-at : (f : MarkField) → MarkFits f → (markPlace f < 8) × (markField (markPlace f) ≡ f)
+pub mark-at : (f : MarkField) → MarkFits f → (markPlace f < markWords) × (markField (markPlace f) ≡ f)
 unfolding markPlace markField markFields
 mark-at First h = (omega arith, refl)
 mark-at Held h = (omega arith, refl)
@@ -101,19 +103,19 @@ cell-of (InFar k) h = (
 Told : CellField → Type 0
 Told f = PlaceFits (cellPlace f) × (cellField (cellPlace f) ≡ f)
 
-cell-nears : Below (λ k. Told (Near k)) 4
+cell-nears : Below (λ k. Told (Near k)) nearMarks
 unfolding Below Told cellPlace cellField nearFields
 cell-nears = ((((none, (omega arith, refl)), (omega arith, refl)), (omega arith, refl)), (omega arith, refl))
 
-cell-sibs : Below (λ f. Told (Sib f)) 6
+cell-sibs : Below (λ f. Told (Sib f)) mostFacets
 unfolding Below Told cellPlace cellField nearFields
 cell-sibs = ((((((none, (omega arith, refl)), (omega arith, refl)), (omega arith, refl)), (omega arith, refl)), (omega arith, refl)), (omega arith, refl))
 
-cell-links : Below (λ k. Told (Link k)) 8
+cell-links : Below (λ k. Told (Link k)) mostMarks
 unfolding Below Told cellPlace cellField nearFields farFields
 cell-links = ((((((((none, (omega arith, refl)), (omega arith, refl)), (omega arith, refl)), (omega arith, refl)), (omega arith, refl)), (omega arith, refl)), (omega arith, refl)), (omega arith, refl))
 
-cell-fars : Below (λ k. Told (Far k)) 8
+cell-fars : Below (λ k. Told (Far k)) mostMarks
 unfolding Below Told cellPlace cellField farFields
 cell-fars = ((((((((none, (omega arith, refl)), (omega arith, refl)), (omega arith, refl)), (omega arith, refl)), (omega arith, refl)), (omega arith, refl)), (omega arith, refl)), (omega arith, refl))
 
@@ -128,8 +130,8 @@ cell-rest p h = h
 pub cell-at : (f : CellField) → CellFits f → PlaceFits (cellPlace f) × (cellField (cellPlace f) ≡ f)
 unfolding Told
 cell-at Code h = cell-code
-cell-at (Near k) h = below (λ k. Told (Near k)) 4 cell-nears k h
-cell-at (Sib f) h = below (λ f. Told (Sib f)) 6 cell-sibs f h
-cell-at (Link k) h = below (λ k. Told (Link k)) 8 cell-links k h
-cell-at (Far k) h = below (λ k. Told (Far k)) 8 cell-fars k h
+cell-at (Near k) h = below (λ k. Told (Near k)) nearMarks cell-nears k h
+cell-at (Sib f) h = below (λ f. Told (Sib f)) mostFacets cell-sibs f h
+cell-at (Link k) h = below (λ k. Told (Link k)) mostMarks cell-links k h
+cell-at (Far k) h = below (λ k. Told (Far k)) mostMarks cell-fars k h
 cell-at (CellRest p) h = cell-rest p h

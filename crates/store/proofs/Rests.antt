@@ -12,7 +12,7 @@ use Rattle.lists.proofs.Bools.{clash, and-left, and-right, and-both}
 use Rattle.lists.proofs.Members.{all-has, has-all}
 use Rattle.lists.proofs.Every.{every-at}
 use Rattle.numbers.specs.declared.Caps.{Caps}
-use Rattle.store.specs.Layout.{markAt, nearAt, farAt}
+use Rattle.store.specs.Layout.{markWords, markAt, nearAt, farAt}
 use Rattle.store.specs.Fields.{HeadField, Magic, MarkCap, CellCap, Count, HeadRest, MarkField, First, Held, Anchor, MarkRest, CellField, Code, Near, Sib, Link, Far, CellRest, Place, InNear, InFar, headPlace, headFields, headField, markPlace, markFields, markField, cellPlace, nearFields, farFields, cellField, HeadFits, MarkFits, CellFits}
 use Rattle.store.specs.Slots.{Slot, InHead, InMark, InCell, placeAt, address, read}
 use Rattle.store.specs.Rests.{headRests, markRests, nearRests, farRests, blank, headBlank, markBlank, cellBlank}
@@ -95,7 +95,7 @@ head-named : names 16 (λ k. headSilent (headField k)) headRests ≡ true
 unfolding names every all has alike headSilent headField headFields headRests
 head-named = refl
 
-mark-named : names 8 (λ k. markSilent (markField k)) markRests ≡ true
+mark-named : names markWords (λ k. markSilent (markField k)) markRests ≡ true
 unfolding names every all has alike markSilent markField markFields markRests
 mark-named = refl
 
@@ -153,14 +153,14 @@ module _ (w : List ℕ) (caps : Caps) where
     pub mark-rest : markBlank w caps v ≡ true → (k : ℕ) → MarkFits (MarkRest k) → read w caps (InMark v (MarkRest k)) ≡ 0
     unfolding markBlank markSilent
     mark-rest e k h =
-        one-blank (λ k. InMark v (MarkRest k)) markRests e k (silent-named 8 (λ k. markSilent (markField k)) markRests mark-named k (h .0) (ap markSilent (h .1)))
+        one-blank (λ k. InMark v (MarkRest k)) markRests e k (silent-named markWords (λ k. markSilent (markField k)) markRests mark-named k (h .0) (ap markSilent (h .1)))
 
     pub rest-mark : ((k : ℕ) → MarkFits (MarkRest k) → read w caps (InMark v (MarkRest k)) ≡ 0) → markBlank w caps v ≡ true
     unfolding markBlank
     rest-mark f =
         all-blank (λ k. InMark v (MarkRest k)) markRests
         (λ k t.
-        let s = named-silent 8 (λ k. markSilent (markField k)) markRests mark-named k t in
+        let s = named-silent markWords (λ k. markSilent (markField k)) markRests mark-named k t in
         f k (s .0, mark-silent (markField k) (s .1) ∙ ap MarkRest (mark-of k (s .0) .0)))
 
   -- a cell's

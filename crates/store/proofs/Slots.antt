@@ -4,7 +4,7 @@ use mathlib.Core.List.{List}
 use Prim.Native.Nat.{ℕ, _+_, _*_, _-_, _/_, _%_, _<_, _≤_}
 use native.Mathlib.Decide.{decLt}
 use native.Mathlib.Omega.{arith}
-use Rattle.store.specs.Layout.{markAt, nearAt, farAt, room}
+use Rattle.store.specs.Layout.{markWords, markAt, nearAt, farAt, room}
 use Rattle.store.specs.Fields.{HeadField, MarkField, CellField, Place, InNear, InFar, headPlace, headField, markPlace, markField, cellPlace, cellField, PlaceFits, HeadFits, MarkFits, CellFits}
 use Rattle.store.specs.Slots.{Slot, InHead, InMark, InCell, placeAt, address, Within}
 use Rattle.store.proofs.Fields.{head-of, head-at, mark-of, mark-at, cell-of, cell-at}
@@ -75,7 +75,7 @@ slot-of marks cells i h = go (decLt i 16) (decLt i (16 + 8 * marks)) (decLt i (1
     go : Dec (i < 16) → Dec (i < 16 + 8 * marks) → Dec (i < 16 + 8 * marks + 16 * cells) → (x : Slot) × Within marks cells x × (address marks cells x ≡ i)
     go (yes a) b c = (InHead (headField i), head-of i a .1, head-of i a .0)
     go (no a) (yes b) c =
-        let small : (i - 16) % 8 < 8 = omega arith in (
+        let small : (i - 16) % 8 < markWords = omega arith in (
           InMark ((i - 16) / 8) (markField ((i - 16) % 8)),
           (omega arith, mark-of ((i - 16) % 8) small .1),
           omega (arith, mark-of ((i - 16) % 8) small .0),

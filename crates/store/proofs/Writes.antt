@@ -12,10 +12,11 @@ use Rattle.numbers.specs.declared.Caps.{Caps}
 use denote.Ref.{RefT}
 use Rattle.words.specs.Words.{Only, Part}
 use Rattle.words.proofs.Frame.{only-none, only-put}
-use Rattle.store.specs.Layout.{room, markAt, nearAt, farAt}
+use Rattle.store.specs.Layout.{nearMarks, room, markAt, nearAt, farAt}
 use Rattle.store.specs.Fields.{HeadField, Magic, MarkCap, CellCap, Count, HeadRest, MarkField, First, Held, Anchor, MarkRest, CellField, Code, Near, Sib, Link, Far, CellRest, headPlace, markPlace, cellPlace, HeadFits, MarkFits, CellFits}
 use Rattle.store.specs.Slots.{Slot, InHead, InMark, InCell, placeAt, address, Within, headOpen, markOpen, cellOpen, writable, read, written, cornerIn, marksAt}
 use Rattle.store.proofs.Slots.{slot-below}
+use Rattle.shapes.specs.Sizes.{mostCode, mostFacets, mostMarks}
 
 never : {A : Type 0} → false ≡ true → A
 never e = absurd (omega (arith, ap {B = ℕ} (λ (b : Bool). cond b 1 0) e))
@@ -44,7 +45,7 @@ unfolding headOpen
 head-open Magic e = omega arith
 head-open MarkCap e = omega arith
 head-open CellCap e = omega arith
-head-open (Count t) e = (leb-true 1 t (and-left (leb 1 t) (leb t 7) e), leb-true t 7 (and-right (leb 1 t) (leb t 7) e))
+head-open (Count t) e = (leb-true 1 t (and-left (leb 1 t) (leb t mostCode) e), leb-true t mostCode (and-right (leb 1 t) (leb t mostCode) e))
 head-open (HeadRest k) e = never e
 
 mark-open : (f : MarkField) → markOpen f ≡ true → MarkFits f
@@ -57,10 +58,10 @@ mark-open (MarkRest k) e = never e
 cell-open : (f : CellField) → cellOpen f ≡ true → CellFits f
 unfolding cellOpen
 cell-open Code e = omega arith
-cell-open (Near k) e = ltb-true k 4 e
-cell-open (Sib f) e = ltb-true f 6 e
-cell-open (Link k) e = ltb-true k 8 e
-cell-open (Far k) e = ltb-true k 8 e
+cell-open (Near k) e = ltb-true k nearMarks e
+cell-open (Sib f) e = ltb-true f mostFacets e
+cell-open (Link k) e = ltb-true k mostMarks e
+cell-open (Far k) e = ltb-true k mostMarks e
 cell-open (CellRest p) e = never e
 
 pub open-within : (caps : Caps) (x : Slot) → writable caps x ≡ true → Within (caps .marks) (caps .cells) x
@@ -73,13 +74,13 @@ open-within caps (InCell c f) e =
 
 -- the fields that stand in either part
 module _ (marks cells c k : ℕ) where
-  pub link-near : k < 4 → address marks cells (InCell c (Link k)) ≡ nearAt marks c + (11 + k)
+  pub link-near : k < nearMarks → address marks cells (InCell c (Link k)) ≡ nearAt marks c + (11 + k)
   unfolding address placeAt cellPlace
-  link-near h = rw (lt-ltb k 4 h)
+  link-near h = rw (lt-ltb k nearMarks h)
 
-  pub link-far : 4 ≤ k → address marks cells (InCell c (Link k)) ≡ farAt marks cells c + (4 + k)
+  pub link-far : nearMarks ≤ k → address marks cells (InCell c (Link k)) ≡ farAt marks cells c + (4 + k)
   unfolding address placeAt cellPlace
-  link-far h = rw (le-ltb k 4 h)
+  link-far h = rw (le-ltb k nearMarks h)
 
 module _ (w : List ℕ) (caps : Caps) (y : ℕ) where
   pub write-in : (x : Slot) → writable caps x ≡ true → written w caps x y ≡ set w (address (caps .marks) (caps .cells) x) y
@@ -123,14 +124,14 @@ module _ (w : List ℕ) (caps : Caps) (y : ℕ) where
   write-cell c f i w′ e q h o = write-at (InCell c f) i w′ e q (rw (lt-ltb c (caps .cells) h) o)
 
   -- field by field
-  pub count-out : (t : ℕ) → (t < 1) ⊎ (7 < t) → written w caps (InHead (Count t)) y ≡ w
+  pub count-out : (t : ℕ) → (t < 1) ⊎ (mostCode < t) → written w caps (InHead (Count t)) y ≡ w
   unfolding writable headOpen
   count-out t h =
-      write-out (InHead (Count t)) (⊎-elim (λ (l : t < 1). and-first (leb t 7) (lt-leb 1 t l)) (λ (l : 7 < t). and-second (leb 1 t) (lt-leb t 7 l)) h)
+      write-out (InHead (Count t)) (⊎-elim (λ (l : t < 1). and-first (leb t mostCode) (lt-leb 1 t l)) (λ (l : mostCode < t). and-second (leb 1 t) (lt-leb t mostCode l)) h)
 
-  pub count-in : (t i : ℕ) (w′ : List ℕ) → w′ ≡ set w i y → i ≡ 4 + t → 1 ≤ t → t ≤ 7 → w′ ≡ written w caps (InHead (Count t)) y
+  pub count-in : (t i : ℕ) (w′ : List ℕ) → w′ ≡ set w i y → i ≡ 4 + t → 1 ≤ t → t ≤ mostCode → w′ ≡ written w caps (InHead (Count t)) y
   unfolding writable headOpen address headPlace
-  count-in t i w′ e q a b = write-at (InHead (Count t)) i w′ e q (and-both (le-leb 1 t a) (le-leb t 7 b))
+  count-in t i w′ e q a b = write-at (InHead (Count t)) i w′ e q (and-both (le-leb 1 t a) (le-leb t mostCode b))
 
   pub anchor-out : (v d : ℕ) → (d < 1) ⊎ (3 < d) → written w caps (InMark v (Anchor d)) y ≡ w
   unfolding writable markOpen
@@ -144,47 +145,15 @@ module _ (w : List ℕ) (caps : Caps) (y : ℕ) where
   unfolding markOpen address markPlace
   anchor-in v d i w′ e q h a b = write-mark v (Anchor d) i w′ e q h (and-both (le-leb 1 d a) (le-leb d 3 b))
 
-  module _ (c k : ℕ) where
-    pub near-out : 4 ≤ k → written w caps (InCell c (Near k)) y ≡ w
-    unfolding writable cellOpen
-    near-out h = write-out (InCell c (Near k)) (and-second (ltb c (caps .cells)) (le-ltb k 4 h))
+  -- the fields of a cell that have a number, under their bound
+  module _ (field : ℕ → CellField) (bound : ℕ) (opens : (k : ℕ) → cellOpen (field k) ≡ ltb k bound) (c k : ℕ) where
+    pub field-out : bound ≤ k → written w caps (InCell c (field k)) y ≡ w
+    unfolding writable
+    field-out h = write-out (InCell c (field k)) (and-second (ltb c (caps .cells)) (opens k ∙ le-ltb k bound h))
 
-    pub near-in : (i : ℕ) (w′ : List ℕ) → w′ ≡ set w i y → i ≡ nearAt (caps .marks) c + (1 + k) → c < caps .cells → k < 4
-        → w′ ≡ written w caps (InCell c (Near k)) y
-    unfolding cellOpen address placeAt cellPlace
-    near-in i w′ e q h o = write-cell c (Near k) i w′ e q h (lt-ltb k 4 o)
-
-    pub far-out : 8 ≤ k → written w caps (InCell c (Far k)) y ≡ w
-    unfolding writable cellOpen
-    far-out h = write-out (InCell c (Far k)) (and-second (ltb c (caps .cells)) (le-ltb k 8 h))
-
-    pub far-in : (i : ℕ) (w′ : List ℕ) → w′ ≡ set w i y → i ≡ farAt (caps .marks) (caps .cells) c + k → c < caps .cells → k < 8
-        → w′ ≡ written w caps (InCell c (Far k)) y
-    unfolding cellOpen address placeAt cellPlace
-    far-in i w′ e q h o = write-cell c (Far k) i w′ e q h (lt-ltb k 8 o)
-
-    pub sib-out : 6 ≤ k → written w caps (InCell c (Sib k)) y ≡ w
-    unfolding writable cellOpen
-    sib-out h = write-out (InCell c (Sib k)) (and-second (ltb c (caps .cells)) (le-ltb k 6 h))
-
-    pub sib-in : (i : ℕ) (w′ : List ℕ) → w′ ≡ set w i y → i ≡ nearAt (caps .marks) c + (5 + k) → c < caps .cells → k < 6
-        → w′ ≡ written w caps (InCell c (Sib k)) y
-    unfolding cellOpen address placeAt cellPlace
-    sib-in i w′ e q h o = write-cell c (Sib k) i w′ e q h (lt-ltb k 6 o)
-
-    pub link-out : 8 ≤ k → written w caps (InCell c (Link k)) y ≡ w
-    unfolding writable cellOpen
-    link-out h = write-out (InCell c (Link k)) (and-second (ltb c (caps .cells)) (le-ltb k 8 h))
-
-    pub link-in-near : (i : ℕ) (w′ : List ℕ) → w′ ≡ set w i y → i ≡ nearAt (caps .marks) c + (11 + k) → c < caps .cells → k < 4
-        → w′ ≡ written w caps (InCell c (Link k)) y
-    unfolding cellOpen
-    link-in-near i w′ e q h o = write-cell c (Link k) i w′ e (q ∙ sym (link-near (caps .marks) (caps .cells) c k o)) h (lt-ltb k 8 (omega arith))
-
-    pub link-in-far : (i : ℕ) (w′ : List ℕ) → w′ ≡ set w i y → i ≡ farAt (caps .marks) (caps .cells) c + (4 + k) → c < caps .cells → 4 ≤ k → k < 8
-        → w′ ≡ written w caps (InCell c (Link k)) y
-    unfolding cellOpen
-    link-in-far i w′ e q h l o = write-cell c (Link k) i w′ e (q ∙ sym (link-far (caps .marks) (caps .cells) c k l)) h (lt-ltb k 8 o)
+    pub field-in : (i : ℕ) (w′ : List ℕ) → w′ ≡ set w i y → i ≡ address (caps .marks) (caps .cells) (InCell c (field k)) → c < caps .cells → k < bound
+        → w′ ≡ written w caps (InCell c (field k)) y
+    field-in i w′ e q h o = write-cell c (field k) i w′ e q h (opens k ∙ lt-ltb k bound o)
 
   -- on any memory a write stays in the room
   pub write-only : (x : Slot) → Only (λ i. i < room (caps .marks) (caps .cells)) w (written w caps x y)
@@ -199,25 +168,6 @@ module _ (w : List ℕ) (caps : Caps) (y : ℕ) where
 pub read-at : (w : List ℕ) (caps : Caps) (x : Slot) (i r : ℕ) → r ≡ getD w i 0 → i ≡ address (caps .marks) (caps .cells) x → r ≡ read w caps x
 unfolding read
 read-at w caps x i r e f = e ∙ ap (λ (k : ℕ). getD w k 0) f
-
--- a corner and the marks by the part that they stand in
-module _ (w : List ℕ) (caps : Caps) (c k : ℕ) where
-  pub corner-near : k < 4 → cornerIn w caps c k ≡ read w caps (InCell c (Near k))
-  unfolding cornerIn
-  corner-near h = rw (lt-ltb k 4 h)
-
-  pub corner-far : 4 ≤ k → cornerIn w caps c k ≡ read w caps (InCell c (Far k))
-  unfolding cornerIn
-  corner-far h = rw (le-ltb k 4 h)
-
-module _ (caps : Caps) (c n : ℕ) where
-  pub marks-near : n ≤ 4 → marksAt caps c n ≡ nearAt (caps .marks) c + 1
-  unfolding marksAt address placeAt cellPlace
-  marks-near h = rw (le-leb n 4 h)
-
-  pub marks-far : 4 < n → marksAt caps c n ≡ farAt (caps .marks) (caps .cells) c + 0
-  unfolding marksAt address placeAt cellPlace
-  marks-far h = rw (lt-leb n 4 h)
 
 pub part-at : (w : RefT (List ℕ)) (i j n : ℕ) (r : RefT (List ℕ)) → Part w i n r → i ≡ j → Part w j n r
 part-at w i j n r p e = subst (λ (k : ℕ). Part w k n r) e p

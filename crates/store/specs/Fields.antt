@@ -5,6 +5,8 @@ use mathlib.Core.List.{List, [], _∷_}
 use Prim.Native.Nat.{ℕ, _+_, _<_, _≤_}
 use lib.Dec.{ltb}
 use lib.ListN.{getD}
+use Rattle.shapes.specs.Sizes.{mostCode, mostFacets, mostMarks}
+use Rattle.store.specs.Layout.{headWords, markWords, partWords, nearMarks}
 
 -- a word of the head: what says that this is a mesh, the capacities, the live cells of a type; a word that says nothing
 pub data HeadField : Type 0 where
@@ -70,7 +72,7 @@ unfoldable pub cellPlace : CellField → Place
 cellPlace Code = InNear 0
 cellPlace (Near k) = InNear (1 + k)
 cellPlace (Sib f) = InNear (5 + f)
-cellPlace (Link k) = cond (ltb k 4) (InNear (11 + k)) (InFar (4 + k))
+cellPlace (Link k) = cond (ltb k nearMarks) (InNear (11 + k)) (InFar (4 + k))
 cellPlace (Far k) = InFar k
 cellPlace (CellRest p) = p
 
@@ -96,26 +98,26 @@ cellField (InFar k) = getD farFields k Code
 
 -- the fields that there are
 abbrev pub HeadFits : HeadField → Type 0
-HeadFits Magic = 0 < 16
-HeadFits MarkCap = 0 < 16
-HeadFits CellCap = 0 < 16
-HeadFits (Count t) = (1 ≤ t) × (t ≤ 7)
-HeadFits (HeadRest k) = (k < 16) × (headField k ≡ HeadRest k)
+HeadFits Magic = 0 < headWords
+HeadFits MarkCap = 0 < headWords
+HeadFits CellCap = 0 < headWords
+HeadFits (Count t) = (1 ≤ t) × (t ≤ mostCode)
+HeadFits (HeadRest k) = (k < headWords) × (headField k ≡ HeadRest k)
 
 abbrev pub MarkFits : MarkField → Type 0
-MarkFits First = 0 < 8
-MarkFits Held = 0 < 8
+MarkFits First = 0 < markWords
+MarkFits Held = 0 < markWords
 MarkFits (Anchor d) = (1 ≤ d) × (d ≤ 3)
-MarkFits (MarkRest k) = (k < 8) × (markField k ≡ MarkRest k)
+MarkFits (MarkRest k) = (k < markWords) × (markField k ≡ MarkRest k)
 
 abbrev pub PlaceFits : Place → Type 0
-PlaceFits (InNear k) = k < 16
-PlaceFits (InFar k) = k < 16
+PlaceFits (InNear k) = k < partWords
+PlaceFits (InFar k) = k < partWords
 
 abbrev pub CellFits : CellField → Type 0
-CellFits Code = 0 < 16
-CellFits (Near k) = k < 4
-CellFits (Sib f) = f < 6
-CellFits (Link k) = k < 8
-CellFits (Far k) = k < 8
+CellFits Code = 0 < partWords
+CellFits (Near k) = k < nearMarks
+CellFits (Sib f) = f < mostFacets
+CellFits (Link k) = k < mostMarks
+CellFits (Far k) = k < mostMarks
 CellFits (CellRest p) = PlaceFits p × (cellField p ≡ CellRest p)

@@ -6,13 +6,27 @@ unfoldable pub use Rattle.numbers.specs.Room.{room}
 unfoldable pub magic : ℕ
 magic = 1296780361
 
--- a mark's record: 8 words
-unfoldable pub markAt : ℕ → ℕ
-markAt v = 16 + 8 * v
+-- the words of the head, of a mark's record, of each part of a cell's
+abbrev pub headWords : ℕ
+headWords = 16
 
--- a cell's record: 16 words in the first part, 16 in the second
+abbrev pub markWords : ℕ
+markWords = 8
+
+abbrev pub partWords : ℕ
+partWords = 16
+
+-- a cell of at most so many marks has them in its first part
+abbrev pub nearMarks : ℕ
+nearMarks = 4
+
+-- a mark's record
+unfoldable pub markAt : ℕ → ℕ
+markAt v = headWords + markWords * v
+
+-- a cell's record: all first parts, then all second parts
 unfoldable pub nearAt : ℕ → ℕ → ℕ
-nearAt marks c = 16 + 8 * marks + 16 * c
+nearAt marks c = headWords + markWords * marks + partWords * c
 
 unfoldable pub farAt : ℕ → ℕ → ℕ → ℕ
-farAt marks cells c = 16 + 8 * marks + 16 * cells + 16 * c
+farAt marks cells c = headWords + markWords * marks + partWords * cells + partWords * c

@@ -5,8 +5,9 @@ use Prim.Native.Nat.{ℕ, _+_, _<_}
 use lib.Dec.{leb, ltb}
 use lib.ListN.{getD, set}
 use Rattle.numbers.specs.declared.Caps.{Caps}
-use Rattle.store.specs.Layout.{markAt, nearAt, farAt}
+use Rattle.store.specs.Layout.{nearMarks, markAt, nearAt, farAt}
 use Rattle.store.specs.Fields.{HeadField, Magic, MarkCap, CellCap, Count, HeadRest, MarkField, First, Held, Anchor, MarkRest, CellField, Code, Near, Sib, Link, Far, CellRest, Place, InNear, InFar, headPlace, markPlace, cellPlace, HeadFits, MarkFits, CellFits}
+use Rattle.shapes.specs.Sizes.{mostCode, mostFacets, mostMarks}
 
 pub data Slot : Type 0 where
   InHead : HeadField → Slot
@@ -37,7 +38,7 @@ unfoldable pub headOpen : HeadField → Bool
 headOpen Magic = false
 headOpen MarkCap = false
 headOpen CellCap = false
-headOpen (Count t) = leb 1 t && leb t 7
+headOpen (Count t) = leb 1 t && leb t mostCode
 headOpen (HeadRest k) = false
 
 unfoldable pub markOpen : MarkField → Bool
@@ -48,10 +49,10 @@ markOpen (MarkRest k) = false
 
 unfoldable pub cellOpen : CellField → Bool
 cellOpen Code = true
-cellOpen (Near k) = ltb k 4
-cellOpen (Sib f) = ltb f 6
-cellOpen (Link k) = ltb k 8
-cellOpen (Far k) = ltb k 8
+cellOpen (Near k) = ltb k nearMarks
+cellOpen (Sib f) = ltb f mostFacets
+cellOpen (Link k) = ltb k mostMarks
+cellOpen (Far k) = ltb k mostMarks
 cellOpen (CellRest p) = false
 
 unfoldable pub writable : Caps → Slot → Bool
@@ -69,8 +70,8 @@ codeIn w caps c = read w caps (InCell c Code)
 
 -- the mark at a corner of a cell
 unfoldable pub cornerIn : List ℕ → Caps → ℕ → ℕ → ℕ
-cornerIn w caps c k = cond (ltb k 4) (read w caps (InCell c (Near k))) (read w caps (InCell c (Far k)))
+cornerIn w caps c k = cond (ltb k nearMarks) (read w caps (InCell c (Near k))) (read w caps (InCell c (Far k)))
 
 -- where the first n marks of a cell stand side by side
 unfoldable pub marksAt : Caps → ℕ → ℕ → ℕ
-marksAt caps c n = cond (leb n 4) (address (caps .marks) (caps .cells) (InCell c (Near 0))) (address (caps .marks) (caps .cells) (InCell c (Far 0)))
+marksAt caps c n = cond (leb n nearMarks) (address (caps .marks) (caps .cells) (InCell c (Near 0))) (address (caps .marks) (caps .cells) (InCell c (Far 0)))

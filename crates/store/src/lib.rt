@@ -11,7 +11,7 @@ ghost use lib.Dec.{eqb};
 ghost use lib.ListN.{getD};
 ghost use Rattle.lists.specs.Lists.{all};
 ghost use Rattle.words.specs.Words.{Part};
-ghost use Rattle.store.specs.Layout.{room};
+ghost use Rattle.store.specs.Layout.{room, headWords, markWords, partWords};
 ghost use Rattle.store.specs.Fields.{Count, First, Held, Anchor, Code, Near, Sib, Link, Far};
 ghost use Rattle.store.specs.Slots.{InHead, InMark, InCell, read, written, cornerIn, marksAt};
 ghost use Rattle.store.specs.Rests.{headBlank, markBlank, cellBlank};
@@ -23,6 +23,9 @@ use numbers::MOST_CAPACITY;
 use numbers::Mark;
 use numbers::cell_of;
 use numbers::facet_of;
+use shapes::MOST_CODE;
+use shapes::MOST_FACETS;
+use shapes::MOST_MARKS;
 use words::part;
 use words::put;
 use words::word;
@@ -30,8 +33,17 @@ use words::word;
 // The first word of a mesh.
 pub const MAGIC: u32 = 1296780361;
 
-// The words of the head.
+// The words of the head, of a mark's record, of each part of a cell's, of both.
 pub const HEAD: usize = 16;
+
+const MARK_WORDS: usize = 8;
+
+const PART_WORDS: usize = 16;
+
+const CELL_WORDS: usize = 32;
+
+// A cell of at most so many marks has them in its first part.
+pub const NEAR_MARKS: u32 = 4;
 
 // What memory is.
 pub enum Opened {
@@ -43,7 +55,7 @@ pub enum Opened {
 pub fn room_of(caps: Caps) -> usize
     ensures { λ r. ⌜ r ≡ room (caps .marks) (caps .cells) ⌝ }
 {
-    HEAD + 8 * (caps.marks as usize) + 32 * (caps.cells as usize)
+    HEAD + MARK_WORDS * (caps.marks as usize) + CELL_WORDS * (caps.cells as usize)
 }
 
 // Whether memory is a mesh, and its capacities.
@@ -83,21 +95,24 @@ pub fn write_head(w: &mut [u32], caps: Caps)
 
 // Where a record begins: a mark's, the first part of a cell's, the second part.
 fn mark_at(v: Mark) -> usize
-    ensures { λ r. ⌜ r ≡ 16 + 8 * v .0 ⌝ }
+    ensures { λ r. ⌜ r ≡ headWords + markWords * v .0 ⌝ }
 {
-    HEAD + 8 * (v.0 as usize)
+    HEAD + MARK_WORDS * (v.0 as usize)
 }
 
 fn near_at(caps: Caps, c: Cell) -> usize
-    ensures { λ r. ⌜ r ≡ 16 + 8 * caps .marks + 16 * c .0 ⌝ }
+    ensures { λ r. ⌜ r ≡ headWords + markWords * caps .marks + partWords * c .0 ⌝ }
 {
-    HEAD + 8 * (caps.marks as usize) + 16 * (c.0 as usize)
+    HEAD + MARK_WORDS * (caps.marks as usize) + PART_WORDS * (c.0 as usize)
 }
 
 fn far_at(caps: Caps, c: Cell) -> usize
-    ensures { λ r. ⌜ r ≡ 16 + 8 * caps .marks + 16 * caps .cells + 16 * c .0 ⌝ }
+    ensures { λ r. ⌜ r ≡ headWords + markWords * caps .marks + partWords * caps .cells + partWords * c .0 ⌝ }
 {
-    HEAD + 8 * (caps.marks as usize) + 16 * (caps.cells as usize) + 16 * (c.0 as usize)
+    HEAD
+        + MARK_WORDS * (caps.marks as usize)
+        + PART_WORDS * (caps.cells as usize)
+        + PART_WORDS * (c.0 as usize)
 }
 
 // The live cells of a type, counted.
@@ -113,7 +128,7 @@ pub fn write_count(w: &mut [u32], caps: Caps, t: u32, x: u32)
     if t < 1 {
         return;
     }
-    if 7 < t {
+    if MOST_CODE < t {
         return;
     }
     put(w, 4 + (t as usize), x);
@@ -193,7 +208,7 @@ pub fn write_code(w: &mut [u32], caps: Caps, c: Cell, x: u32)
 pub fn corner_of(w: &[u32], caps: Caps, c: Cell, k: u32) -> Mark
     ensures { λ r. ⌜ r .0 ≡ cornerIn (now (w .entry)) caps (c .0) k ⌝ }
 {
-    if k < 4 {
+    if k < NEAR_MARKS {
         return Mark(word(w, near_at(caps, c) + (1 + (k as usize))));
     }
     Mark(word(w, far_at(caps, c) + k as usize))
@@ -203,7 +218,7 @@ pub fn corner_of(w: &[u32], caps: Caps, c: Cell, k: u32) -> Mark
 pub fn marks_place(caps: Caps, c: Cell, n: usize) -> usize
     ensures { λ r. ⌜ r ≡ marksAt caps (c .0) n ⌝ }
 {
-    if n <= 4 {
+    if n <= NEAR_MARKS as usize {
         return near_at(caps, c) + 1;
     }
     far_at(caps, c)
@@ -223,7 +238,7 @@ pub fn write_near(w: &mut [u32], caps: Caps, c: Cell, k: u32, x: u32)
     if caps.cells <= c.0 {
         return;
     }
-    if 4 <= k {
+    if NEAR_MARKS <= k {
         return;
     }
     put(w, near_at(caps, c) + (1 + (k as usize)), x);
@@ -241,7 +256,7 @@ pub fn write_far(w: &mut [u32], caps: Caps, c: Cell, k: u32, x: u32)
     if caps.cells <= c.0 {
         return;
     }
-    if 8 <= k {
+    if MOST_MARKS <= k {
         return;
     }
     put(w, far_at(caps, c) + k as usize, x);
@@ -262,7 +277,7 @@ pub fn write_sibling(w: &mut [u32], caps: Caps, h: Half, x: Half)
     if caps.cells <= c.0 {
         return;
     }
-    if 6 <= f {
+    if MOST_FACETS <= f {
         return;
     }
     put(w, near_at(caps, c) + (5 + (f as usize)), x.0);
@@ -272,7 +287,7 @@ pub fn write_sibling(w: &mut [u32], caps: Caps, h: Half, x: Half)
 pub fn link_of(w: &[u32], caps: Caps, c: Cell, k: u32) -> u32
     ensures { λ r. ⌜ r ≡ read (now (w .entry)) caps (InCell (c .0) (Link k)) ⌝ }
 {
-    if k < 4 {
+    if k < NEAR_MARKS {
         return word(w, near_at(caps, c) + (11 + (k as usize)));
     }
     word(w, far_at(caps, c) + (4 + (k as usize)))
@@ -284,10 +299,10 @@ pub fn write_link(w: &mut [u32], caps: Caps, c: Cell, k: u32, x: u32)
     if caps.cells <= c.0 {
         return;
     }
-    if 8 <= k {
+    if MOST_MARKS <= k {
         return;
     }
-    if k < 4 {
+    if k < NEAR_MARKS {
         put(w, near_at(caps, c) + (11 + (k as usize)), x);
         return;
     }

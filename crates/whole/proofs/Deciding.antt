@@ -18,7 +18,7 @@ use Rattle.lists.proofs.Counts.{none-has, has-none}
 use Rattle.lists.proofs.Every.{every-at, at-every}
 use Rattle.numbers.specs.Half.{halfOf}
 use Rattle.shapes.specs.Shapes.{shape, facetCount}
-use Rattle.shapes.specs.Sizes.{mostCode}
+use Rattle.shapes.specs.Sizes.{mostFacets, mostCode}
 use Rattle.shapes.proofs.Facts.{facts}
 use Rattle.shapes.proofs.Types.{type-marks}
 use Rattle.numbers.specs.declared.Caps.{Caps}
@@ -142,10 +142,10 @@ module _ (w : List ℕ) (caps : Caps) (s : State) (p : Pic w caps s) where
       (λ c h.
       at-every (sibRight caps s c) (facetCount (codeIn w caps c))
       (λ f l.
-      let few : f < 6 = omega (arith, facts (codeIn w caps c) .facets) in
+      let few : f < mostFacets = omega (arith, facts (codeIn w caps c) .facets) in
       eq-eqb (s .sib (8 * c + f)) (sibling (mapWith caps s) (8 * c + f)) (t .siblings (8 * c + f) (is-half c f h l few))))
     where
-      is-half : (c f : ℕ) → c < caps .cells → f < facetCount (codeIn w caps c) → f < 6 → ltb ((8 * c + f) % 8) (length (facetsAt (mapWith caps s) ((8 * c + f) / 8))) ≡ true
+      is-half : (c f : ℕ) → c < caps .cells → f < facetCount (codeIn w caps c) → f < mostFacets → ltb ((8 * c + f) % 8) (length (facetsAt (mapWith caps s) ((8 * c + f) / 8))) ≡ true
       is-half c f h l few =
           let a : (8 * c + f) / 8 ≡ c = omega arith in
           let b : (8 * c + f) % 8 ≡ f = omega arith in

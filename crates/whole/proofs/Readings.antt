@@ -13,7 +13,7 @@ use Rattle.lists.proofs.Bools.{clash, or-left, not-of-false}
 use Rattle.lists.proofs.Members.{at-has}
 use Rattle.lists.proofs.Select.{select-out, select-size}
 use Rattle.lists.proofs.Alike.{any-same}
-use Rattle.numbers.specs.Half.{halfOf}
+use Rattle.numbers.specs.Half.{cut, halfOf}
 use Rattle.numbers.proofs.Inverse.{half-uncut}
 use Rattle.shapes.specs.Shapes.{noShape, shapes, shape, facetCount}
 use Rattle.shapes.specs.Table.{table}
@@ -43,6 +43,8 @@ use Rattle.laid.specs.Upright.{Upright}
 use Rattle.facet.proofs.Read.{marks-is}
 use Rattle.laid.proofs.Uprights.{upright-chain, upright-linked}
 use Rattle.whole.specs.SecondHalf.{Sees, Readied, SettledBy, twinIn, twinOf, loneOf, sibRight, ancRight, countIn, countRight}
+use Rattle.numbers.specs.Sizes.{mostAround}
+use Rattle.shapes.specs.Sizes.{mostFacets}
 
 module _ (w : List ℕ) (caps : Caps) (s : State) (p : Pic w caps s) (u : Upright caps s) where
   -- a twin by the records is one by the map
@@ -59,7 +61,7 @@ module _ (w : List ℕ) (caps : Caps) (s : State) (p : Pic w caps s) (u : Uprigh
       u .inside (getD (s .at c .marks) 0 0) c (at-has (s .at c .marks) 0 some)
 
   -- what is gathered is the holders of the mark
-  gathered-is : (v n : ℕ) (o o′ : List ℕ) → Gathered w caps v o n o′ → length o ≡ 128 → v < caps .marks
+  gathered-is : (v n : ℕ) (o o′ : List ℕ) → Gathered w caps v o n o′ → length o ≡ mostAround → v < caps .marks
       → listOf n (λ i. getD o′ i 0) ≡ holders (mapWith caps s) v
   gathered-is v n o o′ g size h =
       let l = g .list s p (upright-linked caps s u) h in
@@ -88,7 +90,7 @@ module _ (w : List ℕ) (caps : Caps) (c : ℕ) where
   lone-of s v r same first some = rw (ne-eqb (s .at c .code) 0 some, ← first, same)
 
   pub lone-some : (x v n : ℕ) (o o′ : List ℕ) (r : Bool) → x ≡ codeIn w caps c → (x ≡ 0 → ⊥)
-      → v ≡ cornerIn w caps c 0 → Gathered w caps v o n o′ → length o ≡ 128
+      → v ≡ cornerIn w caps c 0 → Gathered w caps v o n o′ → length o ≡ mostAround
       → r ≡ any (twinIn w caps c) (listOf n (λ i. getD o′ i 0))
       → Sees w caps (λ s. Upright caps s × (c < caps .cells)) (λ s. loneOf (mapWith caps s) c) (not r)
   unfolding loneOf
@@ -115,7 +117,7 @@ module _ (w : List ℕ) (caps : Caps) (rows : List (List (List ℕ))) (c f : ℕ
     unfolding facetCount mapWith
     few = omega (arith, facets-count (mapWith caps s) c, ap (λ (t : ℕ). length (shape t .facets)) (code-read w caps s p c h))
 
-    small : f < 6
+    small : f < mostFacets
     unfolding facetCount
     small = omega (arith, facts (codeIn w caps c) .facets)
 
@@ -127,7 +129,7 @@ module _ (w : List ℕ) (caps : Caps) (rows : List (List (List ℕ))) (c f : ℕ
     unfolding halfOf
     set-is = facet-is ∙ sym (half-facet (mapWith caps s) c f few .2)
 
-    shared-is : (n : ℕ) (o o′ : List ℕ) → Shared w caps rows (facetIn w caps rows c f) o n o′ → length o ≡ 128
+    shared-is : (n : ℕ) (o o′ : List ℕ) → Shared w caps rows (facetIn w caps rows c f) o n o′ → length o ≡ mostAround
         → listOf n (λ i. getD o′ i 0) ≡ siblings (mapWith caps s) (halfOf c f)
     unfolding siblings mapWith
     shared-is n o o′ shared size =
@@ -147,8 +149,8 @@ module _ (w : List ℕ) (caps : Caps) (rows : List (List (List ℕ))) (c f : ℕ
         let facet : (8 * c + f) % 8 ≡ f = omega (arith, small) in
         sib-read w caps s p (8 * c + f) (omega (arith, cell)) (omega (arith, facet, small))
 
-    one : (n half next stored : ℕ) (o o′ : List ℕ) → Shared w caps rows (facetIn w caps rows c f) o n o′ → length o ≡ 128
-        → half ≡ halfOf (c % 65536) (f % 8) → next ≡ after half (listOf n (λ i. getD o′ i 0))
+    one : (n half next stored : ℕ) (o o′ : List ℕ) → Shared w caps rows (facetIn w caps rows c f) o n o′ → length o ≡ mostAround
+        → half ≡ halfOf (cut c) (f % 8) → next ≡ after half (listOf n (λ i. getD o′ i 0))
         → stored ≡ read w caps (InCell (half / 8) (Sib (half % 8))) → eqb stored next ≡ sibRight caps s c f
     unfolding sibRight sibling
     one n half next stored o o′ shared size uncut found word =
@@ -157,8 +159,8 @@ module _ (w : List ℕ) (caps : Caps) (rows : List (List (List ℕ))) (c f : ℕ
         found ∙ (ap (λ (h : ℕ). after h (listOf n (λ i. getD o′ i 0))) half-is ∙ ap (after (halfOf c f)) (shared-is n o o′ shared size)) in
         rw (word ∙ (ap (λ (h : ℕ). read w caps (InCell (h / 8) (Sib (h % 8)))) half-is ∙ stored-is), next-is)
 
-  pub sibling-held : (n half next stored : ℕ) (o o′ : List ℕ) → Shared w caps rows (facetIn w caps rows c f) o n o′ → length o ≡ 128
-      → half ≡ halfOf (c % 65536) (f % 8) → next ≡ after half (listOf n (λ i. getD o′ i 0))
+  pub sibling-held : (n half next stored : ℕ) (o o′ : List ℕ) → Shared w caps rows (facetIn w caps rows c f) o n o′ → length o ≡ mostAround
+      → half ≡ halfOf (cut c) (f % 8) → next ≡ after half (listOf n (λ i. getD o′ i 0))
       → stored ≡ read w caps (InCell (half / 8) (Sib (half % 8)))
       → Sees w caps (λ s. (Readied caps rows s × (c < caps .cells)) × (f < facetCount (codeIn w caps c))) (λ s. sibRight caps s c f) (eqb stored next)
   sibling-held n half next stored o o′ shared size uncut found word = record { sees = at }

@@ -15,7 +15,7 @@ use Rattle.shapes.specs.Table.{table}
 use Rattle.numbers.specs.declared.Caps.{Caps}
 use Rattle.numbers.specs.Sizes.{mostCapacity}
 use Rattle.store.specs.declared.Opened.the-variants.{Mesh, Nothing}
-use Rattle.shapes.specs.Sizes.{mostCode}
+use Rattle.shapes.specs.Sizes.{mostFacets, mostCode}
 use Rattle.store.specs.Layout.{magic, room}
 use Rattle.store.specs.Fields.{Magic, MarkCap, CellCap, Count}
 use Rattle.store.specs.Slots.{InHead, read, codeIn}
@@ -127,7 +127,7 @@ module _ (w : List ℕ) (caps : Caps) (opens : Mesh caps ≡ opened w) where
           sibs-settled w caps (seen w caps) told ready
           (sym (see-sibs .sees (seen w caps) told (record { ready = ready; types = types })) ∙ is-sibs)
 
-      empty-facet : (c f : ℕ) → c < caps .cells → f < 6 → isHalf (mapWith caps (seen w caps)) (8 * c + f) ≡ false → seen w caps .sib (8 * c + f) ≡ 0
+      empty-facet : (c f : ℕ) → c < caps .cells → f < mostFacets → isHalf (mapWith caps (seen w caps)) (8 * c + f) ≡ false → seen w caps .sib (8 * c + f) ≡ 0
       unfolding seen isHalf
       empty-facet c f h less e =
           let a : (8 * c + f) / 8 ≡ c = omega arith in

@@ -10,12 +10,13 @@ use Rattle.chain.proofs.Places.{head-word}
 use borrow.Author.Needs.{needs}
 use Rattle.chain.proofs.find.Statement.{statement}
 use Rattle.chain.proofs.find.Tie as tie
+use Rattle.numbers.specs.Sizes.{mostAround}
 
 abbrev Inv-loop : tie.InvT-loop
-Inv-loop w caps c before₀ after₀ n₀ before after n = (n ≤ 128) × ((s : State) (v : _) → Pic w caps s → Linked caps s → after₀ ≡ link caps s v 0 → Searching caps s v (c .0) before after n)
+Inv-loop w caps c before₀ after₀ n₀ before after n = (n ≤ mostAround) × ((s : State) (v : _) → Pic w caps s → Linked caps s → after₀ ≡ link caps s v 0 → Searching caps s v (c .0) before after n)
 
 abbrev μ-loop : tie.MeasureT-loop
-μ-loop w caps c before₀ after₀ n₀ before after n = 128 - n
+μ-loop w caps c before₀ after₀ n₀ before after n = mostAround - n
 
 loop-holds : tie.Need-loop-holds Inv-loop μ-loop
 loop-holds c = (omega arith, λ s v p l e. searching-start _ s v _ _ e)

@@ -11,12 +11,13 @@ use Rattle.chain.proofs.Places.{head-word}
 use borrow.Author.Needs.{needs}
 use Rattle.chain.proofs.gather.Statement.{statement}
 use Rattle.chain.proofs.gather.Tie as tie
+use Rattle.numbers.specs.Sizes.{mostAround}
 
 abbrev Inv-loop : tie.InvT-loop
-Inv-loop w caps out₀ n₀ link₀ out n y = (n ≤ 128) × (length out ≡ length out₀) × ((s : State) (v : _) → Pic w caps s → Linked caps s → link₀ ≡ link caps s v 0 → Walking caps s v out₀ out n y)
+Inv-loop w caps out₀ n₀ link₀ out n y = (n ≤ mostAround) × (length out ≡ length out₀) × ((s : State) (v : _) → Pic w caps s → Linked caps s → link₀ ≡ link caps s v 0 → Walking caps s v out₀ out n y)
 
 abbrev μ-loop : tie.MeasureT-loop
-μ-loop w caps out₀ n₀ link₀ out n y = 128 - n
+μ-loop w caps out₀ n₀ link₀ out n y = mostAround - n
 
 loop-holds : tie.Need-loop-holds Inv-loop μ-loop
 loop-holds c = (omega arith, refl, λ s v p l e. walking-start _ s v _ _ e)

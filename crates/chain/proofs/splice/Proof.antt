@@ -1,4 +1,5 @@
 -- `chain::splice` meets its contract.
+use mathlib.Core.Path.{refl}
 use native.Mathlib.Omega.{arith}
 use Rattle.numbers.specs.Half.{halfOf}
 use Rattle.chain.proofs.Places.{count-word}
@@ -8,7 +9,7 @@ use Rattle.chain.proofs.splice.Statement.{statement}
 use Rattle.chain.proofs.splice.Tie as tie
 
 returns : tie.Need-returns
-returns c = step-never _ _ _ _ (λ s p m. omega (arith, c .if1 .taken, c .before .held-of .ensures, count-word _ _ s p _ (m .mark), m .few))
+returns c = step-never _ _ _ _ (λ s p m. omega (arith, c .if1 .taken, c .before .held-of .ensures, count-word _ _ s p _ (m .mark), m .few refl))
 
 add-put-lead : tie.Need-add-put-lead
 unfolding halfOf

@@ -8,7 +8,7 @@ use Rattle.chain.proofs.unsplice.Statement.{statement}
 use Rattle.chain.proofs.unsplice.Tie as tie
 
 returns : tie.Need-returns
-returns c = step-never _ _ _ _ (λ s p m. omega (arith, c .if1 .taken, c .before .held-of .ensures, count-word _ _ s p _ (m .mark), chain-less (c .before .before .before .before .args .caps) s _ _ (m .cell) (m .there)))
+returns c = step-never _ _ _ _ (λ s p m. omega (arith, c .if1 .taken, c .before .held-of .ensures, count-word _ _ s p _ (m .mark), chain-less (c .before .before .before .before .args .caps) s _ _ (m .cell) (m .was)))
 
 returns-2 : tie.Need-returns-2
 returns-2 c =

@@ -8,12 +8,13 @@ use Rattle.edit.proofs.Removes.{clears-start, clears-more}
 use borrow.Author.Needs.{needs}
 use Rattle.edit.proofs.clear_siblings.Statement.{statement}
 use Rattle.edit.proofs.clear_siblings.Tie as tie
+use Rattle.shapes.specs.Sizes.{mostFacets}
 
 abbrev Inv-loop : tie.InvT-loop
-Inv-loop w₀ caps c f₀ w f = (f ≤ 6) × Step caps w₀ w (λ s. c .0 < caps .cells) (λ s. clearedTo s (c .0) f)
+Inv-loop w₀ caps c f₀ w f = (f ≤ mostFacets) × Step caps w₀ w (λ s. c .0 < caps .cells) (λ s. clearedTo s (c .0) f)
 
 abbrev μ-loop : tie.MeasureT-loop
-μ-loop w₀ caps c f₀ w f = 6 - f
+μ-loop w₀ caps c f₀ w f = mostFacets - f
 
 loop-holds : tie.Need-loop-holds Inv-loop μ-loop
 loop-holds c = (omega arith, clears-start _ _ _)
@@ -26,7 +27,7 @@ loop-again c =
     (omega arith, clears-more _ _ _ _ _ (at-loop .loop .f) _ _ (at-loop .loop .inv .1) (at-half-of .half-of .ensures) refl (at-put-sibling .put-sibling .ensures) (omega arith))
 
 returns : tie.Need-returns Inv-loop μ-loop
-returns c = let all : c .before .loop .f ≡ 6 = omega arith in rw all at (c .before .loop .inv .1)
+returns c = let all : c .before .loop .f ≡ mostFacets = omega arith in rw all at (c .before .loop .inv .1)
 
 pub clear-siblings-spec : {M : Type 1} → statement M
 clear-siblings-spec =

@@ -1,5 +1,5 @@
 -- `facet::copy_facet` meets its contract.
-use Rattle.facet.proofs.Copy.{marks-words, facet-copied}
+use Rattle.facet.proofs.Copy.{marks-words}
 use borrow.Author.Needs.{needs}
 use Rattle.facet.proofs.copy_facet.Statement.{statement}
 use Rattle.facet.proofs.copy_facet.Tie as tie
@@ -9,7 +9,7 @@ returns c =
     let at-facet-set = c .before .before in
     let at-marks-at = at-facet-set .before .before in
     let at-code-of = at-marks-at .before in
-    facet-copied _ _ _ _ _ _ _ _ _ _ (at-code-of .code-of .ensures) (marks-words _ _ _ _ (at-marks-at .marks-at .ensures)) (at-facet-set .facet-set .ensures)
+    rw (← at-code-of .code-of .ensures, ← marks-words _ _ _ _ (at-marks-at .marks-at .ensures)) (at-facet-set .facet-set .ensures)
 
 pub copy-facet-spec : {M : Type 1} → statement M
 copy-facet-spec =

@@ -1,13 +1,13 @@
 -- `facet::facet_has` meets its contract.
 use mathlib.Core.Path.{refl, ap, _∙_}
 use Rattle.lists.specs.Lists.{has, sameSet}
-use Rattle.facet.proofs.Copy.{facet-part}
+use Rattle.facet.proofs.Copy.{set-part}
 use borrow.Author.Needs.{needs}
 use Rattle.facet.proofs.facet_has.Statement.{statement}
 use Rattle.facet.proofs.facet_has.Tie as tie
 
 returns : tie.Need-returns
-returns c = c .has .ensures ∙ ap (has _) (c .before .part .ensures .words ∙ facet-part _ _ _ _ _ _ _ _ (c .before .before .before .before .copy-facet .ensures) refl)
+returns c = c .has .ensures ∙ ap (has _) (c .before .part .ensures .words ∙ set-part _ _ _ _ _ _ _ (c .before .before .before .before .copy-facet .ensures) refl)
 
 pub facet-has-spec : {M : Type 1} → statement M
 facet-has-spec =

@@ -20,14 +20,22 @@ loop-holds : tie.Need-loop-holds Inv-loop μ-loop
 loop-holds c = (omega arith, list-start _ _)
 
 loop-again : tie.Need-loop-again Inv-loop μ-loop
-loop-again c = (
-  omega arith,
-  list-more _ _ (c .before .before .before .before .before .before .before .loop .k) _ _ _ (c .before .before .before .before .before .before .before .loop .inv .1) (c .before .before .put .ensures)
-      (set-here _ _ _ _ (c .before .before .before .before .before .before .before .loop .k) _ _ (c .before .before .before .before .column2 .ensures) (c .before .before .before .word .ensures)),
-)
+loop-again c =
+    let at-put = c .before .before in
+    let at-word = at-put .before in
+    let at-column = at-word .before in
+    let at-loop = at-column .before .before .before in (
+      omega arith,
+      list-more _ _ (at-loop .loop .k) _ _ _ (at-loop .loop .inv .1) (at-put .put .ensures)
+          (set-here _ _ _ _ (at-loop .loop .k) _ _ (at-column .column2 .ensures) (at-word .word .ensures)),
+    )
 
 returns : tie.Need-returns Inv-loop μ-loop
-returns c = set-copied _ _ _ _ _ _ _ (c .before .loop .k) _ (c .before .before .four-at-most .ensures) (c .before .before .before .column .ensures) (c .before .loop .inv .1) (c .before .loop .inv .0) (omega arith)
+returns c =
+    let at-loop = c .before in
+    let at-four = at-loop .before in
+    set-copied _ _ _ _ _ _ _ (at-loop .loop .k) _ (at-four .four-at-most .ensures) (at-four .before .column .ensures) (at-loop .loop .inv .1)
+    (at-loop .loop .inv .0) (omega arith)
 
 pub facet-set-spec : {M : Type 1} → statement M
 facet-set-spec =

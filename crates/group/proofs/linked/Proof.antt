@@ -6,14 +6,14 @@ use native.Mathlib.Omega.{arith}
 use native.Mathlib.Nat.{not-suc-le-zero}
 use borrow.Author.Count.{below-more}
 use mathlib.Core.Bool.{false}
-use Rattle.numbers.specs.Half.{halfOf}
+use Rattle.numbers.specs.Half.{cut, halfOf}
 use Rattle.group.specs.Labels.{metIn}
 use Rattle.group.proofs.Meeting.{met-from, linked-found, linked-none}
 use Rattle.group.proofs.linked.Statement.{statement}
 use Rattle.group.proofs.linked.Tie as tie
 
 abbrev Inv-loop : tie.InvT-loop
-Inv-loop w caps a b n f₀ f = (f ≤ n) × ((k : ℕ) → k < f → metIn w caps (halfOf (a .0 % 65536) (k % 8)) (b .0) ≡ false)
+Inv-loop w caps a b n f₀ f = (f ≤ n) × ((k : ℕ) → k < f → metIn w caps (halfOf (cut (a .0)) (k % 8)) (b .0) ≡ false)
 
 abbrev μ-loop : tie.MeasureT-loop
 μ-loop w caps a b n f₀ f = n - f

@@ -11,15 +11,16 @@ use Rattle.group.proofs.Recalling.{kept-none}
 use Rattle.group.proofs.Listing.{list-start, list-yes, list-no, list-end}
 use Rattle.group.proofs.list.Statement.{statement}
 use Rattle.group.proofs.list.Tie as tie
+use Rattle.numbers.specs.Sizes.{mostAround}
 
 abbrev Inv-loop : tie.InvT-loop
-Inv-loop w caps rows v cells lab n end out₀ kept₀ k₀ i₀ out kept k i = (i ≤ n) × (k ≤ i) × (length kept ≡ 128) × Remembered (placeIn w caps rows (v .0) cells lab end) lab kept × Copied (anchorsIn (placeIn w caps rows (v .0) cells lab end) cells i) out₀ k out
+Inv-loop w caps rows v cells lab n end out₀ kept₀ k₀ i₀ out kept k i = (i ≤ n) × (k ≤ i) × (length kept ≡ mostAround) × Remembered (placeIn w caps rows (v .0) cells lab end) lab kept × Copied (anchorsIn (placeIn w caps rows (v .0) cells lab end) cells i) out₀ k out
 
 abbrev μ-loop : tie.MeasureT-loop
 μ-loop w caps rows v cells lab n end out₀ kept₀ k₀ i₀ out kept k i = n - i
 
 loop-holds : tie.Need-loop-holds Inv-loop μ-loop
-loop-holds c = (omega arith, omega arith, refl, kept-none _ _ 128, list-start _ _ _)
+loop-holds c = (omega arith, omega arith, refl, kept-none _ _ mostAround, list-start _ _ _)
 
 loop-again : tie.Need-loop-again Inv-loop μ-loop
 loop-again c =

@@ -7,12 +7,13 @@ use Rattle.laid.proofs.Steps.{Going, go-start, go-end, go-no, go-more, 
 use borrow.Author.Needs.{needs}
 use Rattle.laid.proofs.chain_ok.Statement.{statement}
 use Rattle.laid.proofs.chain_ok.Tie as tie
+use Rattle.numbers.specs.Sizes.{mostAround}
 
 abbrev Inv-loop : tie.InvT-loop
-Inv-loop w caps v count link₀ low₀ n₀ link low n = (n ≤ 128) × (link < 4294967296) × Going w caps (v .0) n link low
+Inv-loop w caps v count link₀ low₀ n₀ link low n = (n ≤ mostAround) × (link < 4294967296) × Going w caps (v .0) n link low
 
 abbrev μ-loop : tie.MeasureT-loop
-μ-loop w caps v count link₀ low₀ n₀ link low n = 128 - n
+μ-loop w caps v count link₀ low₀ n₀ link low n = mostAround - n
 
 loop-holds : tie.Need-loop-holds Inv-loop μ-loop
 loop-holds c = (omega arith, omega (arith, c .first-of .ok), go-start _ _ _ _ (c .first-of .ensures))

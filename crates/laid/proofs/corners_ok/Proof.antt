@@ -10,12 +10,13 @@ use Rattle.laid.specs.Laid.{cornerRight}
 use borrow.Author.Needs.{needs}
 use Rattle.laid.proofs.corners_ok.Statement.{statement}
 use Rattle.laid.proofs.corners_ok.Tie as tie
+use Rattle.shapes.specs.Sizes.{mostMarks}
 
 abbrev Inv-loop : tie.InvT-loop
-Inv-loop w caps c marks k₀ k = (k ≤ 8) × (every k (cornerRight w caps (c .0) marks) ≡ true)
+Inv-loop w caps c marks k₀ k = (k ≤ mostMarks) × (every k (cornerRight w caps (c .0) marks) ≡ true)
 
 abbrev μ-loop : tie.MeasureT-loop
-μ-loop w caps c marks k₀ k = 8 - k
+μ-loop w caps c marks k₀ k = mostMarks - k
 
 loop-holds : tie.Need-loop-holds Inv-loop μ-loop
 loop-holds c = (omega arith, every-start _)

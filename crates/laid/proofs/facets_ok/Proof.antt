@@ -9,12 +9,13 @@ use Rattle.laid.proofs.Steps.{facets-start, facets-stop, facets-more, f
 use borrow.Author.Needs.{needs}
 use Rattle.laid.proofs.facets_ok.Statement.{statement}
 use Rattle.laid.proofs.facets_ok.Tie as tie
+use Rattle.shapes.specs.Sizes.{mostFacets}
 
 abbrev Inv-loop : tie.InvT-loop
 Inv-loop w caps c t f₀ f = (f₀ ≤ f) × (every f (facetRight w caps (c .0) f₀) ≡ true)
 
 abbrev μ-loop : tie.MeasureT-loop
-μ-loop w caps c t f₀ f = 6 - f
+μ-loop w caps c t f₀ f = mostFacets - f
 
 loop-holds : tie.Need-loop-holds Inv-loop μ-loop
 loop-holds c = (omega arith, facets-start _ _ _ _)

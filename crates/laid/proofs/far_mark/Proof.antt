@@ -13,4 +13,4 @@ returns-2 : tie.Need-returns-2
 returns-2 c = c .word .ensures ∙ sym (far-all _ _ (omega arith))
 
 pub far-mark-spec : {M : Type 1} → statement M
-far-mark-spec = tie.close (tie.spec returns (λ c κs. search needs) returns-2)
+far-mark-spec = tie.close (tie.spec (λ c. search needs) returns (λ c κs. search needs) returns-2)

@@ -6,12 +6,13 @@ use Rattle.laid.proofs.Steps.{Looking, look-none, look-here, look-more,
 use borrow.Author.Needs.{needs}
 use Rattle.laid.proofs.meets.Statement.{statement}
 use Rattle.laid.proofs.meets.Tie as tie
+use Rattle.numbers.specs.Sizes.{mostAround}
 
 abbrev Inv-loop : tie.InvT-loop
-Inv-loop w caps c link₀ n₀ link n = (n ≤ 128) × Looking w caps (c .0) link₀ n link
+Inv-loop w caps c link₀ n₀ link n = (n ≤ mostAround) × Looking w caps (c .0) link₀ n link
 
 abbrev μ-loop : tie.MeasureT-loop
-μ-loop w caps c link₀ n₀ link n = 128 - n
+μ-loop w caps c link₀ n₀ link n = mostAround - n
 
 loop-holds : tie.Need-loop-holds Inv-loop μ-loop
 loop-holds c = (omega arith, refl)

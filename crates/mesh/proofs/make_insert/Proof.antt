@@ -11,12 +11,12 @@ returns-2 : tie.Need-returns-2
 returns-2 c =
     let at-put-count = c .before .before in
     let at-settle = at-put-count .before .before .before .before in
-    let at-link-all = at-settle .before .before .before .before .before in
-    let at-put-body = at-link-all .before .before .before .before in
+    let at-relink-all = at-settle .before .before .before .before .before in
+    let at-put-body = at-relink-all .before .before .before .before in
     let at-in-far = at-put-body .before in
     let at-count-of = at-in-far .before .before .before in
     let at-facet-table = at-count-of .before .before in
-    insert-made _ _ _ _ (at-facet-table .facet-table .ensures) _ _ (at-count-of .count-of .ensures) _ _ _ _ _ (at-in-far .in-far .ensures) (at-put-body .put-body .ensures) (at-link-all .link-all .ensures) (at-settle .settle .ensures) (at-put-count .put-count .ensures)
+    insert-made _ _ _ _ (at-facet-table .facet-table .ensures) _ _ (at-count-of .count-of .ensures) _ _ _ _ _ (at-in-far .in-far .ensures) (at-put-body .put-body .ensures) (at-relink-all .relink-all .ensures) (at-settle .settle .ensures) (at-put-count .put-count .ensures)
 
 pub make-insert-spec : {M : Type 1} → statement M
 make-insert-spec =

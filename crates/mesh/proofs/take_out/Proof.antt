@@ -15,10 +15,10 @@ returns-2 c =
     let at-put-body = at-clear-siblings .before .before .before .before in
     let at-in-far = at-put-body .before in
     let at-part = at-in-far .before in
-    let at-unlink-all = at-part .before .before .before .before in
-    let at-count-of = at-unlink-all .before .before .before in
+    let at-relink-all = at-part .before .before .before .before in
+    let at-count-of = at-relink-all .before .before .before in
     let at-facet-table = at-count-of .before .before in
-    remove-made _ _ _ _ _ (at-facet-table .facet-table .ensures) _ _ (at-count-of .count-of .ensures) _ _ _ _ _ _ _ (at-part .part .ensures .words) (at-in-far .in-far .ensures) (at-unlink-all .unlink-all .ensures) (at-put-body .put-body .ensures) (at-clear-siblings .clear-siblings .ensures) (at-settle .settle .ensures) (at-put-count .put-count .ensures)
+    remove-made _ _ _ _ _ (at-facet-table .facet-table .ensures) _ _ (at-count-of .count-of .ensures) _ _ _ _ _ _ _ (at-part .part .ensures .words) (at-in-far .in-far .ensures) (at-relink-all .relink-all .ensures) (at-put-body .put-body .ensures) (at-clear-siblings .clear-siblings .ensures) (at-settle .settle .ensures) (at-put-count .put-count .ensures)
 
 pub take-out-spec : {M : Type 1} → statement M
 take-out-spec =

@@ -10,12 +10,13 @@ use Rattle.picture.proofs.Bodies.{fars-yes, fars-no}
 use borrow.Author.Needs.{needs}
 use Rattle.picture.proofs.put_far.Statement.{statement}
 use Rattle.picture.proofs.put_far.Tie as tie
+use Rattle.shapes.specs.Sizes.{mostMarks}
 
 abbrev Inv-loop : tie.InvT-loop
-Inv-loop w₀ caps c marks far k₀ w k = (k ≤ 8) × Fills Far caps (c .0) marks w₀ k w
+Inv-loop w₀ caps c marks far k₀ w k = (k ≤ mostMarks) × Fills Far caps (c .0) marks w₀ k w
 
 abbrev μ-loop : tie.MeasureT-loop
-μ-loop w₀ caps c marks far k₀ w k = 8 - k
+μ-loop w₀ caps c marks far k₀ w k = mostMarks - k
 
 returns : tie.Need-returns Inv-loop μ-loop
 returns c = fars-no _ _ _ _ _ (not-true _ (c .if1 .taken))
@@ -31,7 +32,7 @@ loop-again c =
     (omega arith, far-more _ _ _ _ _ _ (at-loop .loop .k) _ (at-loop .loop .inv .1) (at-word .word .ensures) (at-write-far .write-far .ensures) (omega arith))
 
 returns-2 : tie.Need-returns-2 Inv-loop μ-loop
-returns-2 c = let all : c .before .loop .k ≡ 8 = omega arith in fars-yes _ _ _ _ _ _ (rw all at (c .before .loop .inv .1)) (not-false _ (c .before .before .if1 .left))
+returns-2 c = let all : c .before .loop .k ≡ mostMarks = omega arith in fars-yes _ _ _ _ _ _ (rw all at (c .before .loop .inv .1)) (not-false _ (c .before .before .if1 .left))
 
 pub put-far-spec : {M : Type 1} → statement M
 put-far-spec =

@@ -8,12 +8,13 @@ use Rattle.picture.proofs.Fills.{fills-start, near-more}
 use borrow.Author.Needs.{needs}
 use Rattle.picture.proofs.put_near.Statement.{statement}
 use Rattle.picture.proofs.put_near.Tie as tie
+use Rattle.store.specs.Layout.{nearMarks}
 
 abbrev Inv-loop : tie.InvT-loop
-Inv-loop w₀ caps c marks k₀ w k = (k ≤ 4) × Fills Near caps (c .0) marks w₀ k w
+Inv-loop w₀ caps c marks k₀ w k = (k ≤ nearMarks) × Fills Near caps (c .0) marks w₀ k w
 
 abbrev μ-loop : tie.MeasureT-loop
-μ-loop w₀ caps c marks k₀ w k = 4 - k
+μ-loop w₀ caps c marks k₀ w k = nearMarks - k
 
 loop-holds : tie.Need-loop-holds Inv-loop μ-loop
 loop-holds c = (omega arith, fills-start _ _ _ _ _)
@@ -26,7 +27,7 @@ loop-again c =
     (omega arith, near-more _ _ _ _ _ _ (at-loop .loop .k) _ (at-loop .loop .inv .1) (at-word .word .ensures) (at-write-near .write-near .ensures) (omega arith))
 
 returns : tie.Need-returns Inv-loop μ-loop
-returns c = let all : c .before .loop .k ≡ 4 = omega arith in rw all at (c .before .loop .inv .1)
+returns c = let all : c .before .loop .k ≡ nearMarks = omega arith in rw all at (c .before .loop .inv .1)
 
 pub put-near-spec : {M : Type 1} → statement M
 put-near-spec =

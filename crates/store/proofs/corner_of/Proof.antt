@@ -1,7 +1,8 @@
 -- `store::corner_of` meets its contract.
 use mathlib.Core.Path.{sym, _∙_}
 use native.Mathlib.Omega.{arith}
-use Rattle.store.proofs.Writes.{read-at, corner-near, corner-far}
+use Rattle.store.proofs.Writes.{read-at}
+use Rattle.store.proofs.Marks.{corner-near, corner-far}
 use Rattle.store.specs.Fields.{cellPlace}
 use Rattle.store.specs.Slots.{address, placeAt}
 use Rattle.store.specs.Layout.{nearAt, farAt}
