@@ -77,7 +77,6 @@ uint8_t mk_format(uint32_t *mesh, size_t words, uint32_t marks, uint32_t cells);
  * with 7 for a missing number or code, then 3, 4, 6, 7, 8, 9, 10, 11. place is written on a refusal
  * only: the place of the refused record, from 0. Refusals 1 and 2 come with place 0 and leave the
  * mesh as it was; a refused record leaves a formatted mesh with no live cell.
- * The places lent must not overlap.
  */
 uint8_t mk_build(uint32_t *mesh, size_t words, uint32_t marks, uint32_t cells, const uint32_t *records,
                  size_t count, uint32_t *place);
@@ -85,7 +84,6 @@ uint8_t mk_build(uint32_t *mesh, size_t words, uint32_t marks, uint32_t cells, c
 /*
  * Insert: a cell of the caller's number, of a type code, on count marks. Refused with 14, 3, 4, 6, 7,
  * 8, 9, 10, 11.
- * The places lent must not overlap.
  */
 uint8_t mk_insert(uint32_t *mesh, size_t words, uint32_t cell, uint32_t type, const uint32_t *marks,
                   size_t count);
@@ -95,21 +93,18 @@ uint8_t mk_remove(uint32_t *mesh, size_t words, uint32_t cell);
 
 /*
  * Type: the type code of a cell. Refused with 14, 3, 5.
- * The places lent must not overlap.
  */
 uint8_t mk_type(const uint32_t *mesh, size_t words, uint32_t cell, uint32_t *type);
 
 /*
  * Marks: the marks of a cell are mesh[*at] to mesh[*at + *count - 1], in the order given at insertion.
  * They lie inside the lent words whatever these hold. Refused with 14, 3, 5.
- * The places lent must not overlap.
  */
 uint8_t mk_marks(const uint32_t *mesh, size_t words, uint32_t cell, uint32_t *at, uint32_t *count);
 
 /*
  * Sibling: the next half-facet with the same set of marks, and after the last the first; a border is
  * its own. Refused with 14, 3, 5, 13.
- * The places lent must not overlap.
  */
 uint8_t mk_sibling(const uint32_t *mesh, size_t words, uint32_t cell, uint32_t facet, uint32_t *half);
 
@@ -122,21 +117,18 @@ uint8_t mk_sibling(const uint32_t *mesh, size_t words, uint32_t cell, uint32_t f
 
 /*
  * Cycle: all half-facets with this one's set of marks, this one first. Refused with 14, 3, 5, 13, 12.
- * The places lent must not overlap.
  */
 uint8_t mk_cycle(const uint32_t *mesh, size_t words, uint32_t cell, uint32_t facet, uint32_t *out, size_t room,
                  uint32_t *count);
 
 /*
  * Border: 1 if the half-facet is alone in its set, else 0. Refused with 14, 3, 5, 13.
- * The places lent must not overlap.
  */
 uint8_t mk_border(const uint32_t *mesh, size_t words, uint32_t cell, uint32_t facet, uint32_t *yes);
 
 /*
  * Star: the live cells of the dimension that hold the mark, ascending, each once. Refused with 14, 6,
  * 8, 12.
- * The places lent must not overlap.
  */
 uint8_t mk_star(const uint32_t *mesh, size_t words, uint32_t dimension, uint32_t mark, uint32_t *out,
                 size_t room, uint32_t *count);
@@ -144,7 +136,6 @@ uint8_t mk_star(const uint32_t *mesh, size_t words, uint32_t dimension, uint32_t
 /*
  * Anchors: one half-facet for each group of the star, ascending: the smallest border that holds the
  * mark, and where the group has none, the smallest half-facet that does. Refused with 14, 6, 8, 12.
- * The places lent must not overlap.
  */
 uint8_t mk_anchors(const uint32_t *mesh, size_t words, uint32_t dimension, uint32_t mark, uint32_t *out,
                    size_t room, uint32_t *count);
@@ -152,7 +143,6 @@ uint8_t mk_anchors(const uint32_t *mesh, size_t words, uint32_t dimension, uint3
 /*
  * First anchor: found is 1 and half the first of the anchors, or found is 0 and half stays as it was,
  * where there are none. Refused with 14, 6, 8.
- * The places lent must not overlap.
  */
 uint8_t mk_first_anchor(const uint32_t *mesh, size_t words, uint32_t dimension, uint32_t mark, uint32_t *found,
                         uint32_t *half);
@@ -160,7 +150,6 @@ uint8_t mk_first_anchor(const uint32_t *mesh, size_t words, uint32_t dimension, 
 /*
  * Neighbours: the other live cells that share a facet with the cell, ascending, each once. Refused with
  * 14, 3, 5, 12.
- * The places lent must not overlap.
  */
 uint8_t mk_neighbours(const uint32_t *mesh, size_t words, uint32_t cell, uint32_t *out, size_t room,
                       uint32_t *count);
@@ -168,14 +157,12 @@ uint8_t mk_neighbours(const uint32_t *mesh, size_t words, uint32_t cell, uint32_
 /*
  * Lookup: found is 1 and half the smallest half-facet with this set of 1 to 3 marks, whatever their
  * order, or found is 0 and half stays as it was, where there is none. Refused with 14, 7, 8, 9.
- * The places lent must not overlap.
  */
 uint8_t mk_lookup(const uint32_t *mesh, size_t words, const uint32_t *set, size_t n, uint32_t *found,
                   uint32_t *half);
 
 /*
  * Cells: the live cells of a type code, ascending. Refused with 14, 6, 12.
- * The places lent must not overlap.
  */
 uint8_t mk_cells(const uint32_t *mesh, size_t words, uint32_t type, uint32_t *out, size_t room,
                  uint32_t *count);
@@ -183,7 +170,6 @@ uint8_t mk_cells(const uint32_t *mesh, size_t words, uint32_t type, uint32_t *ou
 /*
  * Count: how many live cells of a type code there are. Refused with 14, 6. It is read from memory, and on
  * words that are no well-formed mesh may be any number: room for mk_cells is sized by the capacity.
- * The places lent must not overlap.
  */
 uint8_t mk_count(const uint32_t *mesh, size_t words, uint32_t type, uint32_t *count);
 

@@ -2,19 +2,19 @@
 use mathlib.Core.Path.{_≡_, refl, sym, ap, _∙_, subst, fun-ext}
 use mathlib.Core.Bool.{Bool, true, false, cond, _&&_}
 use mathlib.Core.List.{List, []}
-use Prim.Native.Nat.{ℕ, zero, suc, _/_, _%_, _<_, _≤_}
+use Prim.Native.Nat.{ℕ, _/_, _%_, _<_, _≤_}
 use native.Mathlib.Decide.{ℕ-discrete}
 use native.Mathlib.Omega.{arith}
 use borrow.Author.Tests.{eq-eqb, ne-eqb, eqb-true, eqb-false, ltb-true, le-ltb}
 use lib.Dec.{eqb}
-use lib.ListN.{getD, length}
+use lib.ListN.{length}
 use Rattle.lists.specs.Lists.{has, any, sameSet}
 use Rattle.lists.proofs.Bools.{clash, not-true-false}
 use Rattle.lists.proofs.Members.{at-any}
 use Rattle.lists.proofs.Sets.{same-refl}
 use Rattle.shapes.specs.Sizes.{mostFacets, mostCode}
 use Rattle.shapes.proofs.Facts.{facts}
-use Rattle.shapes.specs.Shapes.{shape, shapes, noShape}
+use Rattle.shapes.specs.Shapes.{shape}
 use Rattle.shapes.specs.Table.{table}
 use Rattle.numbers.specs.declared.Caps.{Caps}
 use Rattle.map.specs.Cells.{Body, Map, holds, facetsAt, cellsOf}
@@ -29,7 +29,7 @@ use Rattle.picture.specs.Changes.{withCount}
 use Rattle.picture.proofs.Alike.{retold, pic-retold, state-same}
 use Rattle.laws.proofs.Facets.{facets-count}
 use Rattle.map.specs.Cells.{setsOf}
-use Rattle.settle.specs.Settle.{among, MaySettle, settled}
+use Rattle.mend.specs.Settle.{among, MaySettle, settled}
 use Rattle.edit.specs.Edit.{withLinks}
 
 -- from m to m′ a cell of type t on these marks, under the number c, comes or goes

@@ -28,7 +28,7 @@ use Rattle.chain.specs.Chain.{Linked}
 use Rattle.shapes.specs.Sizes.{mostCode}
 use Rattle.shapes.proofs.Facts.{facts}
 use Rattle.shapes.proofs.Types.{type-code}
-use Rattle.settle.specs.Settle.{MaySettle, settled}
+use Rattle.mend.specs.Settle.{MaySettle, settled}
 use Rattle.edit.specs.Edit.{withLinks, MayLinks}
 use Rattle.edit.proofs.Around.{Turn, turn-in, links-hold, Around, no-sib, around-settle, around-wf}
 use Rattle.store.specs.Layout.{nearMarks}

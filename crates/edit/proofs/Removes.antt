@@ -29,7 +29,7 @@ use Rattle.picture.specs.Changes.{withBody, withSib, withCount}
 use Rattle.picture.specs.Step.{Step}
 use Rattle.picture.specs.Writes.{MayWrite}
 use Rattle.chain.proofs.Readied.{ready-linked}
-use Rattle.settle.specs.Settle.{MaySettle, settled}
+use Rattle.mend.specs.Settle.{MaySettle, settled}
 use Rattle.edit.specs.Edit.{withLinks, MayLinks}
 use Rattle.edit.specs.Cleared.{clearedTo, cleared}
 use Rattle.edit.proofs.Around.{Turn, turn-out, links-hold, Around, past-sib, around-settle, around-wf}

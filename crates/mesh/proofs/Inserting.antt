@@ -27,7 +27,7 @@ use Rattle.picture.specs.Writes.{MayWrite}
 use Rattle.picture.specs.Step.{Step}
 use Rattle.picture.proofs.Record.{count-read}
 use Rattle.picture.proofs.Settles.{wf-pic}
-use Rattle.settle.specs.Settle.{MaySettle, settled}
+use Rattle.mend.specs.Settle.{MaySettle, settled}
 use Rattle.edit.specs.Edit.{withLinks, MayLinks, Made}
 use Rattle.edit.proofs.Inserts.{may-write, may-links, may-settle, may-count, inserted}
 use Rattle.store.specs.Layout.{nearMarks}

@@ -34,7 +34,7 @@ use Rattle.picture.proofs.Settles.{wf-pic}
 use Rattle.facet.specs.Facet.{marksIn}
 use Rattle.facet.proofs.Read.{marks-is}
 use Rattle.checks.proofs.Rows.{cells-of, code-of}
-use Rattle.settle.specs.Settle.{MaySettle, settled}
+use Rattle.mend.specs.Settle.{MaySettle, settled}
 use Rattle.edit.specs.Edit.{withLinks, MayLinks, Made}
 use Rattle.edit.specs.Cleared.{cleared}
 use Rattle.edit.proofs.Removes.{may-links, may-write, may-settle, may-count, removed}

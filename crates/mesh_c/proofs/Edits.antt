@@ -17,7 +17,7 @@ use Rattle.map.proofs.Refusals.{number-some}
 use Rattle.format.specs.Formatted.{Formatted}
 use Rattle.mesh.specs.Edited.{Edited}
 use Rattle.build.specs.Builds.{Builds, formatRefusal}
-use Rattle.tell.specs.Told.{Told}
+use Rattle.c_answers.specs.Told.{Told}
 use Rattle.mesh_c.specs.Changed.{Emptied, Raised, Changed}
 
 -- a verdict by its number: refused with a number that is not 0, accepted with 0

@@ -19,7 +19,7 @@ use Rattle.ask.specs.Asked.{Asked}
 use Rattle.ask.specs.Refusals.{noValue, noFound}
 use Rattle.listing.specs.Listing.{Listing}
 use Rattle.whole.specs.Whole.{Whole}
-use Rattle.tell.specs.Told.{Told, ToldFound}
+use Rattle.c_answers.specs.Told.{Told, ToldFound}
 use Rattle.mesh_c.specs.Answered.{Answered, Sought, Listed, Judged}
 use Rattle.mesh_c.proofs.Plain.{Plain, value-plain, found-plain}
 

@@ -12,7 +12,7 @@ use Rattle.map.specs.Cells.{Map}
 use Rattle.map.specs.Answers.{Check, Answer, listAnswer, typeAnswer}
 use Rattle.picture.specs.Picture.{Wf}
 use Rattle.listing.specs.Listing.{listed}
-use Rattle.tell.specs.Told.{Told}
+use Rattle.c_answers.specs.Told.{Told}
 
 -- one number
 pub record Answered (w : List ℕ) (answer : Map → Answer) (x r x′ : ℕ) : Type 0 where

@@ -13,7 +13,7 @@ use Rattle.map.specs.Cells.{Map}
 use Rattle.map.specs.History.{Edit, editAnswer, edited, empty, build}
 use Rattle.picture.specs.Picture.{Wf}
 use Rattle.build.specs.Builds.{formatRefusal, buildAnswer}
-use Rattle.tell.specs.Told.{Told}
+use Rattle.c_answers.specs.Told.{Told}
 
 -- a format
 pub record Emptied (w : List ℕ) (caps : Caps) (r : ℕ) (w′ : List ℕ) : Type 0 where

@@ -3,7 +3,7 @@
 // What is here: a function for each public call, under its plain name, none with a `requires`. Each answers the refusal's number, 0 for
 // accepted, and gives its values through lent words. What is proved: the promise of the call it stands for, told by numbers; a refusal
 // leaves what was lent as it was, on any memory (specs/Answered.antt, specs/Changed.antt). What a caller should know: a list is a pointer
-// and a count of 32-bit words, aligned to 4 bytes; no two lent places may overlap.
+// and a count of 32-bit words, aligned to 4 bytes; what a call writes may not overlap anything else that is lent to it.
 ghost use Rattle.numbers.specs.Half.{halfOf};
 ghost use Rattle.numbers.specs.Sizes.{capacities};
 ghost use Rattle.map.specs.Answers.{cellChecks, halfChecks, starChecks, typeChecks, typeAnswer, siblingAnswer, borderAnswer, firstAnchorAnswer, lookupAnswer, countAnswer};
@@ -19,6 +19,13 @@ use ask::first_anchor;
 use ask::sibling;
 use ask::type_of;
 use build::build;
+use c_answers::byte_of;
+use c_answers::tell_built;
+use c_answers::tell_found;
+use c_answers::tell_half;
+use c_answers::tell_truth;
+use c_answers::tell_value;
+use c_answers::tell_verdict;
 use format::format;
 use listing::anchors;
 use listing::cells_of_type;
@@ -36,13 +43,6 @@ use shapes::mark_count;
 use store::Opened;
 use store::marks_place;
 use store::open;
-use tell::byte_of;
-use tell::tell_built;
-use tell::tell_found;
-use tell::tell_half;
-use tell::tell_truth;
-use tell::tell_value;
-use tell::tell_verdict;
 use whole::whole;
 
 // A mesh of these capacities with no live cell.

@@ -2,11 +2,10 @@
 use mathlib.Core.Path.{_≡_, refl, sym, ap, ap₂, _∙_, subst}
 use mathlib.Core.Bool.{Bool, true, false, cond, _&&_}
 use mathlib.Core.List.{List}
-use Prim.Native.Nat.{ℕ, suc, _+_, _*_, _/_, _%_, _<_, _≤_}
+use Prim.Native.Nat.{ℕ, _+_, _*_, _/_, _%_, _<_, _≤_}
 use native.Mathlib.Omega.{arith}
 use borrow.Author.Tests.{eq-eqb, ne-eqb, eqb-true, lt-ltb, le-leb}
 use lib.Dec.{eqb}
-use lib.ListN.{length}
 use Rattle.numbers.specs.declared.Caps.{Caps}
 use Rattle.store.specs.Fields.{Count, Anchor, Sib}
 use Rattle.store.specs.Slots.{Slot, InHead, InMark, InCell, headOpen, markOpen, cellOpen, writable, written, Within}

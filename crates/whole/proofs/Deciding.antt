@@ -34,7 +34,7 @@ use Rattle.store.specs.Fields.{Count}
 use Rattle.store.specs.Slots.{InHead, read, codeIn}
 use Rattle.laws.proofs.Facets.{facets-count}
 use Rattle.picture.proofs.Record.{code-read}
-use Rattle.laid.specs.Upright.{Upright}
+use Rattle.record_checks.specs.Upright.{Upright}
 use Rattle.whole.specs.SecondHalf.{twinOf, loneOf, sibRight, sibsRight, ancRight, ancsRight, countIn, countRight}
 
 module _ (caps : Caps) (s : State) where

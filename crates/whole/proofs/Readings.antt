@@ -39,9 +39,9 @@ use Rattle.facet.proofs.Read.{facet-read}
 use Rattle.star.specs.Listed.{Reads}
 use Rattle.group.specs.Group.{Around}
 use Rattle.lists.proofs.Mapped.{copied-list}
-use Rattle.laid.specs.Upright.{Upright}
+use Rattle.record_checks.specs.Upright.{Upright}
 use Rattle.facet.proofs.Read.{marks-is}
-use Rattle.laid.proofs.Uprights.{upright-chain, upright-linked}
+use Rattle.record_checks.proofs.Uprights.{upright-chain, upright-linked}
 use Rattle.whole.specs.SecondHalf.{Sees, Readied, SettledBy, twinIn, twinOf, loneOf, sibRight, ancRight, countIn, countRight}
 use Rattle.numbers.specs.Sizes.{mostAround}
 use Rattle.shapes.specs.Sizes.{mostFacets}

@@ -30,12 +30,12 @@ use Rattle.picture.proofs.Settles.{wf-pic, wf-settled, wf-map}
 use Rattle.laws.proofs.Facets.{facets-count}
 use Rattle.picture.proofs.Record.{code-read, count-read}
 use Rattle.checks.proofs.Opens.{nothing-opened, mesh-opened, wf-mesh, wf-caps}
-use Rattle.laid.specs.Laid.{laidIn}
-use Rattle.laid.specs.Upright.{Upright}
-use Rattle.laid.proofs.Records.{Headed, behind-facets}
-use Rattle.laid.proofs.Seen.{seen, seen-pic}
-use Rattle.laid.proofs.Uprights.{upright-ready, ready-upright, seen-upright}
-use Rattle.laid.proofs.Right.{wf-laid}
+use Rattle.record_checks.specs.Laid.{laidIn}
+use Rattle.record_checks.specs.Upright.{Upright}
+use Rattle.record_checks.proofs.Records.{Headed, behind-facets}
+use Rattle.record_checks.proofs.Seen.{seen, seen-pic}
+use Rattle.record_checks.proofs.Uprights.{upright-ready, ready-upright, seen-upright}
+use Rattle.record_checks.proofs.Right.{wf-laid}
 use Rattle.whole.specs.Whole.{Whole}
 use Rattle.whole.specs.SecondHalf.{Sees, Readied, SettledBy, loneOf, sibsRight, ancsRight, countRight}
 use Rattle.whole.proofs.Settling.{settled-wf}

@@ -19,7 +19,7 @@ use Rattle.picture.specs.Ready.{Ready, Settled}
 use Rattle.store.specs.Fields.{Count}
 use Rattle.store.specs.Slots.{InHead, read, codeIn}
 use Rattle.facet.specs.Facet.{marksIn}
-use Rattle.laid.specs.Upright.{Upright}
+use Rattle.record_checks.specs.Upright.{Upright}
 
 -- what a step tells of any state whose picture memory is and that allows the step
 pub record Sees (w : List ℕ) (caps : Caps) (ok : State → Type 0) (test : State → Bool) (r : Bool) : Type 0 where

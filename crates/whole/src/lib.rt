@@ -1,6 +1,6 @@
 // The whole check: whether memory is well-formed.
 //
-// What is here: `whole`, and the steps of its second half; the first half is crates/laid. What is proved: it says yes exactly if there is
+// What is here: `whole`, and the steps of its second half; the first half is crates/record_checks. What is proved: it says yes exactly if there is
 // a map of which memory is the well-formed memory, on any memory, also under 16 words (specs/Whole.antt). What a caller should know:
 // nothing is written; the time grows with the marks and cells and their stars.
 ghost use mathlib.Core.Path.{_≡_};
@@ -11,13 +11,12 @@ ghost use Rattle.shapes.specs.Shapes.{facetCount};
 ghost use Rattle.picture.specs.State.{mapWith};
 ghost use Rattle.shapes.specs.Sizes.{mostCode};
 ghost use Rattle.store.specs.Slots.{codeIn};
-ghost use Rattle.laid.specs.Upright.{Upright};
+ghost use Rattle.record_checks.specs.Upright.{Upright};
 ghost use Rattle.whole.specs.Whole.{Whole};
 ghost use Rattle.whole.specs.SecondHalf.{Sees, Readied, SettledBy, twinIn, loneOf, sibRight, sibsRight, ancRight, ancsRight, countIn, countRight};
 use chain::gather;
 use facet::marks_at;
 use group::first_anchor_of;
-use laid::laid;
 use lists::same_set;
 use numbers::Caps;
 use numbers::Cell;
@@ -25,6 +24,7 @@ use numbers::Half;
 use numbers::MOST_AROUND;
 use numbers::Mark;
 use numbers::half_of;
+use record_checks::laid;
 use shapes::FacetTable;
 use shapes::MOST_CODE;
 use shapes::facet_count;

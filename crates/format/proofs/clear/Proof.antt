@@ -17,11 +17,10 @@ loop-holds : tie.Need-loop-holds Inv-loop μ-loop
 loop-holds c = (omega arith, clear-start _ _ (omega arith))
 
 loop-again : tie.Need-loop-again Inv-loop μ-loop
-loop-again c = (
-  omega arith,
-  clear-more _ _ _ _ _ _ (c .before .before .before .before .before .loop .inv .1)
-      (c .before .before .put .ensures) (omega arith) (omega arith),
-)
+loop-again c =
+    let at-put = c .before .before in
+    let at-loop = at-put .before .before .before in
+    (omega arith, clear-more _ _ _ _ _ _ (at-loop .loop .inv .1) (at-put .put .ensures) (omega arith) (omega arith))
 
 returns : tie.Need-returns Inv-loop μ-loop
 returns c = clear-end _ _ (c .before .loop .i) _ (c .before .loop .inv .1) (omega arith) (omega arith)

@@ -1,7 +1,7 @@
 -- `whole::all_lone` meets its contract.
 use borrow.Author.Needs.{needs}
 use Rattle.picture.specs.State.{mapWith}
-use Rattle.laid.specs.Upright.{Upright}
+use Rattle.record_checks.specs.Upright.{Upright}
 use Rattle.whole.proofs.Loops.{SeesTo, sees-start, sees-more, sees-stop, sees-end}
 use Rattle.whole.specs.SecondHalf.{Sees, Readied, SettledBy, twinIn, loneOf, sibRight, sibsRight, ancRight, ancsRight, countIn, countRight}
 use borrow.Author.Tests.{not-true, not-false}

@@ -1,0 +1,60 @@
+-- An answer told: refused, given a value, given none.
+use mathlib.Core.Path.{_≡_, refl}
+use mathlib.Core.List.{[], _∷_}
+use Prim.Native.Nat.{ℕ, _%_}
+use native.Mathlib.Omega.{arith}
+use borrow.Author.Tests.{ne-eqb}
+use Rattle.lists.specs.Lists.{first}
+use Rattle.map.specs.Answers.{Answer}
+use Rattle.map.specs.Says.{numberOf, given, refused, verdictSays, builtSays}
+use Rattle.map.specs.declared.Refusal.{Refusal}
+use Rattle.map.specs.declared.Verdict.{Verdict}
+use Rattle.map.specs.declared.Verdict.the-variants as Verdict′
+use Rattle.map.specs.declared.Built.{Built}
+use Rattle.map.specs.declared.Built.the-variants as Built′
+use Rattle.map.proofs.Refusals.{number-some}
+use Rattle.c_answers.specs.Told.{Told, ToldFound}
+
+module _ (a : Answer) (x : ℕ) where
+  pub told-refused : (why : Refusal) (r : ℕ) → a ≡ refused why → r ≡ numberOf why → Told a x r x
+  unfolding refused first
+  told-refused why r e q = record { number = rw (e, q); value = rw e }
+
+  pub told-none : a ≡ given [] → Told a x 0 x
+  unfolding given first
+  told-none e = record { number = rw e; value = rw e }
+
+  pub told-given : (n : ℕ) → a ≡ given (n ∷ []) → Told a x 0 n
+  unfolding given first
+  told-given n e = record { number = rw e; value = rw e }
+
+  -- with how many there are
+  module _ (y : ℕ) where
+    pub found-refused : (why : Refusal) (r : ℕ) → a ≡ refused why → r ≡ numberOf why → ToldFound a y x r y x
+    found-refused why r e q = record {
+      told = told-refused why r e q;
+      found = rw (ne-eqb r 0 (λ z. omega (arith, number-some why)));
+    }
+
+    pub found-none : a ≡ given [] → ToldFound a y x 0 0 x
+    unfolding given
+    found-none e = record { told = told-none e; found = rw e }
+
+    pub found-given : (n : ℕ) → a ≡ given (n ∷ []) → ToldFound a y x 0 1 n
+    unfolding given
+    found-given n e = record { told = told-given n e; found = rw e }
+
+-- a verdict has no value
+module _ (v : Verdict) where
+  pub verdict-accepted : v ≡ Verdict′.Accepted → 0 ≡ verdictSays v .refusal
+  unfolding verdictSays given
+  verdict-accepted e = rw e
+
+  pub verdict-refused : (why : Refusal) (r : ℕ) → v ≡ Verdict′.Refused why → r ≡ numberOf why → r ≡ verdictSays v .refusal
+  unfolding verdictSays refused
+  verdict-refused why r e q = rw (e, q)
+
+-- a refused build has the place
+pub built-refused : (b : Built) (x : ℕ) (why : Refusal) (place r : ℕ) → b ≡ Built′.Refused why place → r ≡ numberOf why → Told (builtSays b) x r place
+unfolding builtSays first
+built-refused b x why place r e q = record { number = rw (e, q); value = rw e }

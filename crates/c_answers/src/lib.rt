@@ -1,0 +1,107 @@
+// Each kind of answer as a number and lent words: 0 with the value in its place, or the refusal's number.
+//
+// What is here: a function for each answer enum of crates/map. What is proved: the number is the answer's refusal, and the lent word is
+// the answer's value, or as it was where the answer has none (specs/Told.antt). What a caller should know: a refused build has a value,
+// the place of its record; every other answer has one only where it is accepted.
+ghost use mathlib.Core.Path.{_≡_};
+ghost use Rattle.map.specs.Says.{numberOf, verdictSays, valueSays, halfSays, truthSays, builtSays, foundSays};
+ghost use Rattle.c_answers.specs.Told.{Told, ToldFound};
+use map::Built;
+use map::Found;
+use map::HalfAt;
+use map::Refusal;
+use map::Truth;
+use map::Value;
+use map::Verdict;
+use map::number_of;
+
+// The number of a refusal in a byte.
+pub fn byte_of(why: Refusal) -> u8
+    ensures { λ r. ⌜ r ≡ numberOf why ⌝ }
+{
+    (number_of(why) % 256) as u8
+}
+
+// Accepted, or why not.
+pub fn tell_verdict(v: Verdict) -> u8
+    ensures { λ r. ⌜ r ≡ verdictSays v .refusal ⌝ }
+{
+    match v {
+        Verdict::Accepted => 0,
+        Verdict::Refused(why) => byte_of(why),
+    }
+}
+
+// One number.
+pub fn tell_value(v: Value, x: &mut u32) -> u8
+    ensures { λ r. ⌜ Told (valueSays v) (now (x .entry)) r (now (x .exit)) ⌝ }
+{
+    match v {
+        Value::Refused(why) => byte_of(why),
+        Value::Is(n) => {
+            *x = n;
+            0
+        }
+    }
+}
+
+// A half-facet.
+pub fn tell_half(h: HalfAt, x: &mut u32) -> u8
+    ensures { λ r. ⌜ Told (halfSays h) (now (x .entry)) r (now (x .exit)) ⌝ }
+{
+    match h {
+        HalfAt::Refused(why) => byte_of(why),
+        HalfAt::At(half) => {
+            *x = half.0;
+            0
+        }
+    }
+}
+
+// Yes as 1, no as 0.
+pub fn tell_truth(t: Truth, x: &mut u32) -> u8
+    ensures { λ r. ⌜ Told (truthSays t) (now (x .entry)) r (now (x .exit)) ⌝ }
+{
+    match t {
+        Truth::Refused(why) => byte_of(why),
+        Truth::Yes => {
+            *x = 1;
+            0
+        }
+        Truth::No => {
+            *x = 0;
+            0
+        }
+    }
+}
+
+// A half-facet or none: whether there is one, 1 or 0, beside it.
+pub fn tell_found(f: Found, found: &mut u32, x: &mut u32) -> u8
+    ensures { λ r. ⌜ ToldFound (foundSays f) (now (found .entry)) (now (x .entry)) r (now (found .exit)) (now (x .exit)) ⌝ }
+{
+    match f {
+        Found::Refused(why) => byte_of(why),
+        Found::Nothing => {
+            *found = 0;
+            0
+        }
+        Found::At(first) => {
+            *found = 1;
+            *x = first.0;
+            0
+        }
+    }
+}
+
+// Built, or the place of the refused record.
+pub fn tell_built(b: Built, x: &mut u32) -> u8
+    ensures { λ r. ⌜ Told (builtSays b) (now (x .entry)) r (now (x .exit)) ⌝ }
+{
+    match b {
+        Built::Accepted => 0,
+        Built::Refused(why, place) => {
+            *x = place;
+            byte_of(why)
+        }
+    }
+}

@@ -1,0 +1,36 @@
+-- After any story memory is well-formed for the map that the story leaves, and every query answers by definition over its cells.
+use mathlib.Core.Path.{_≡_, refl}
+use mathlib.Core.List.{List}
+use Prim.Native.Nat.{ℕ}
+use lib.ListN.{length}
+use Rattle.map.specs.Cells.{Map}
+use Rattle.map.specs.Answers.{Check, Answer, listAnswer}
+use Rattle.map.specs.Says.{valueSays}
+use Rattle.map.specs.declared.Value.{Value}
+use Rattle.picture.specs.Picture.{Wf}
+use Rattle.ask.specs.Asked.{Asked, Handed}
+use Rattle.listing.specs.Listing.{Listing, listed}
+use Rattle.mesh.proofs.Evening.{run-wf}
+use Rattle.stories.specs.Story.{Story, formatted, built, then}
+
+-- memory is well-formed for the map of the cells that the edits leave
+pub story-wf : {w : List ℕ} {m : Map} → Story w m → Wf w m
+story-wf (formatted f) = f .wf refl
+story-wf (built b ok) = b .wf ok
+story-wf (then s run) = run-wf run _ (story-wf s)
+
+module _ {w : List ℕ} {m : Map} (s : Story w m) where
+  -- a query answers as the definition does over those cells
+  pub story-asked : {A : Type 0} {says : A → Answer} {noMesh : A} {answer : Map → Answer} {r : A}
+      → Asked says noMesh w answer r → says r ≡ answer m
+  story-asked q = q .answers m (story-wf s)
+
+  -- the part of memory that is handed back is the definition's
+  pub story-handed : {part : Map → List ℕ} {r : List ℕ} → Handed w part r → r ≡ part m
+  story-handed q = q .answers m (story-wf s)
+
+  -- a listing query gives the definition's list, and leaves the output with it
+  pub story-listed : {checks : Map → List Check} {list : Map → List ℕ} {o o′ : List ℕ} {r : Value} → Listing w checks list o r o′
+      → (valueSays r ≡ listAnswer (checks m) (list m) (length o))
+      × (o′ ≡ listed (listAnswer (checks m) (list m) (length o)) (list m) o)
+  story-listed q = q .answers m (story-wf s)
