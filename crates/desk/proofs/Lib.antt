@@ -1,2 +1,3 @@
--- The law of a piece's rest.
-pub mod Rest
+-- The laws of the turns.
+pub mod Turning
+pub mod Output

@@ -16,11 +16,10 @@ use Rattle.map.specs.declared.Verdict.{Verdict}
 use Rattle.map.specs.declared.Verdict.the-variants.{Refused}
 use Rattle.map.specs.Cells.{Map}
 use Rattle.map.specs.Siblings.{sibling}
-use Rattle.map.specs.Stars.{star, anchors}
 use Rattle.map.specs.History.{empty}
-use Rattle.map.specs.Answers.{Check, Answer, _when_, answer, listAnswer, formatChecks, starChecks, halfChecks, siblingAnswer, starAnswer, anchorsAnswer}
+use Rattle.map.specs.Answers.{Check, Answer, _when_, answer, listAnswer, formatChecks, halfChecks, siblingAnswer}
 use Rattle.map.specs.Says.{given, refused, verdictSays}
-use Rattle.frames.specs.Frames.{Format, Star, Anchors, Sibling, Bad, twoBytes, counted, cellAndFacet, replyTo, mapAfter}
+use Rattle.frames.specs.Frames.{Format, Sibling, Bad, cellAndFacet, replyTo, mapAfter}
 
 -- a call that gives one value tells of its checks, whatever they are asked for
 module _ (value : ℕ) (values : List ℕ) where
@@ -57,6 +56,14 @@ fitting : (checks : List Check) (l : List ℕ) (places : ℕ) → length l ≤ p
 unfolding listAnswer _when_
 fitting checks l places h = last-passes checks (12 when ltb places (length l)) (length l ∷ []) (le-ltb places (length l) h)
 
+-- so a list that fits tells of its checks, whatever is written of it
+module _ (checks : List Check) (l values : List ℕ) (places : ℕ) (h : length l ≤ places) where
+  pub list-given : (n : ℕ) → given (n ∷ []) ≡ listAnswer checks l places → (n ≡ length l) × (answer checks values ≡ given values)
+  list-given n e = answer-given (length l) values checks n (e ∙ fitting checks l places h)
+
+  pub list-refused : (why : Refusal) → refused why ≡ listAnswer checks l places → answer checks values ≡ refused why
+  list-refused why e = answer-refused (length l) values checks why (e ∙ fitting checks l places h)
+
 module _ (m : Map) where
   -- "The program keeps at most 384 marks and 384 cells; more is refused with 1."
   pub reply-above : (marks cells : ℕ) → ltb 384 marks || ltb 384 cells ≡ true → replyTo m (Format marks cells) ≡ verdictSays (Refused CapacityAbove)
@@ -78,30 +85,6 @@ module _ (m : Map) where
   pub map-above : (marks cells : ℕ) → ltb 384 marks || ltb 384 cells ≡ true → mapAfter m (Format marks cells) ≡ m
   unfolding mapAfter replyTo answer _when_
   map-above marks cells e = rw e
-
-  pub reply-star : (d v places n : ℕ) → length (star m d v) ≤ places → given (n ∷ []) ≡ starAnswer m d v places
-      → (n ≡ length (star m d v)) × (replyTo m (Star d v) ≡ given (counted twoBytes (star m d v)))
-  unfolding replyTo starAnswer
-  reply-star d v places n h e =
-      answer-given (length (star m d v)) (counted twoBytes (star m d v)) (starChecks m d v) n (e ∙ fitting (starChecks m d v) (star m d v) places h)
-
-  pub reply-star-refused : (d v places : ℕ) (why : Refusal) → length (star m d v) ≤ places → refused why ≡ starAnswer m d v places
-      → replyTo m (Star d v) ≡ refused why
-  unfolding replyTo starAnswer
-  reply-star-refused d v places why h e =
-      answer-refused (length (star m d v)) (counted twoBytes (star m d v)) (starChecks m d v) why (e ∙ fitting (starChecks m d v) (star m d v) places h)
-
-  pub reply-anchors : (d v places n : ℕ) → length (anchors m d v) ≤ places → given (n ∷ []) ≡ anchorsAnswer m d v places
-      → (n ≡ length (anchors m d v)) × (replyTo m (Anchors d v) ≡ given (counted cellAndFacet (anchors m d v)))
-  unfolding replyTo anchorsAnswer
-  reply-anchors d v places n h e =
-      answer-given (length (anchors m d v)) (counted cellAndFacet (anchors m d v)) (starChecks m d v) n (e ∙ fitting (starChecks m d v) (anchors m d v) places h)
-
-  pub reply-anchors-refused : (d v places : ℕ) (why : Refusal) → length (anchors m d v) ≤ places → refused why ≡ anchorsAnswer m d v places
-      → replyTo m (Anchors d v) ≡ refused why
-  unfolding replyTo anchorsAnswer
-  reply-anchors-refused d v places why h e =
-      answer-refused (length (anchors m d v)) (counted cellAndFacet (anchors m d v)) (starChecks m d v) why (e ∙ fitting (starChecks m d v) (anchors m d v) places h)
 
   pub reply-sibling : (c f h : ℕ) → given (h ∷ []) ≡ siblingAnswer m c f → replyTo m (Sibling c f) ≡ given (cellAndFacet h)
   unfolding replyTo siblingAnswer

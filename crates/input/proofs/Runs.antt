@@ -27,15 +27,21 @@ use Rattle.input.specs.InPieces.{InPieces, done, then}
 use Rattle.input.proofs.Going.{reached-none, reached-then}
 
 -- the bytes of a feed are the first places of its output
-fed-text : {w line w′ line′ piece o o′ : List ℕ} {n : ℕ} {r : Fed} (f : Feeding w line n piece o r w′ line′ o′) → take (r .written) o′ ≡ f .text
+pub fed-text : {w line w′ line′ piece o o′ : List ℕ} {n : ℕ} {r : Fed} (f : Feeding w line n piece o r w′ line′ o′) → take (r .written) o′ ≡ f .text
 fed-text {o = o} {r = r} f = ap (take (r .written)) (f .out) ∙ take-at (f .text) (drop (length (f .text)) o) (r .written) (sym (f .written))
+
+-- and so are the bytes of the end
+pub end-text : {o o′ : List ℕ} {n r : ℕ} (f : Finished n o r o′) → 3 ≤ length o → take r o′ ≡ f .text
+end-text {o} {o′} {n} {r} f enough =
+    let last = append-fits (f .text) (f .appended) (omega (arith, f .few)) in
+    ap (take r) (last .1) ∙ take-at (f .text) (drop (0 + length (f .text)) o) r (omega (arith, last .0))
 
 -- a feed, and then what the rest comes to
 run-more : {w line w′ line′ w″ line″ piece o o′ input text : List ℕ} {n n″ : ℕ} {r : Fed} → Feeding w line n piece o r w′ line′ o′
     → ((m : Map) (l : List ℕ) → Standing w′ line′ (r .length) m l → Reached m l input text w″ line″ n″)
     → (m : Map) (l : List ℕ) → Standing w line n m l → Reached m l (take (r .taken) piece ++ input) (take (r .written) o′ ++ text) w″ line″ n″
 run-more {piece = piece} {input = input} {text = text} {r = r} f rest m l s =
-    let a = f .stands m l s in
+    let a = f .stands m l s .1 in
     subst (λ (t : List ℕ). Reached m l (take (r .taken) piece ++ input) (t ++ text) _ _ _) (sym (fed-text f))
     (reached-then a (rest (a .map) (a .sofar) (a .stands)))
 
@@ -54,11 +60,9 @@ run-inside (then piece r f rest) = only-then (f .inside) (run-inside rest)
 pub run-output : {w₀ w line w′ line′ input text o o′ : List ℕ} {v : Verdict} {n r : ℕ} → Started w₀ v w → v ≡ Accepted → 65 ≤ length line
     → InPieces w line 0 input text w′ line′ n → Finished n o r o′ → 3 ≤ length o → text ++ take r o′ ≡ output input
 unfolding output
-run-output {line = line} {input = input} {text = text} {o = o} {o′ = o′} {r = r} begun ok fits run end enough =
+run-output {line = line} {input = input} {text = text} begun ok fits run end enough =
     let a = run-reaches run _ [] (begun .stands ok line fits) in
-    let last = append-fits (end .text) (end .appended) (omega (arith, end .few)) in
-    let bytes : take r o′ ≡ end .text = ap (take r) (last .1) ∙ take-at (end .text) (drop (0 + length (end .text)) o) r (omega (arith, last .0)) in
-    ap (λ (x : List ℕ). text ++ x) (bytes ∙ end .ends _ _ (a .map) (a .sofar) (a .stands))
+    ap (λ (x : List ℕ). text ++ x) (end-text end enough ∙ end .ends _ _ (a .map) (a .sofar) (a .stands))
     ∙ (sym (a .output []) ∙ ap (outputFrom _ []) (append-nil input))
 
 -- bytes that end no line

@@ -1,12 +1,13 @@
 // The input of the frame program, in pieces as they come.
 //
 // What is here: `start` formats the lent words, `feed` takes bytes of a piece and writes the answer of each line that ends in it, `finish`
-// answers a last line without its end. None has a `requires`. Between two calls the state is the mesh words (15,376 of them), 65 bytes of
-// the line so far, and their count. What is proved: however the input is cut, what is written is the output of the whole
-// (specs/Fed.antt, proofs/Runs.antt); a line of any length takes 65 bytes of memory. What a caller should know: `feed` takes bytes while the
-// output has room for any answer, 775 bytes; what it did not take is handed in again.
+// answers a last line without its end; `part` cuts what is handed in and out. None has a `requires`. Between two calls the state is the mesh
+// words (15,376 of them), 65 bytes of the line so far, and their count. What is proved: on any memory a piece is taken byte by byte, and how
+// far; however the input is cut, what is written is the output of the whole (specs/Fed.antt, proofs/Runs.antt); a line of any length takes 65
+// bytes of memory. What a caller should know: `feed` takes bytes while the output has room for any answer, 775 bytes; what it did not take
+// is handed in again.
 ghost use mathlib.Core.Path.{_≡_};
-ghost use Prim.Native.Nat.{_+_};
+ghost use Prim.Native.Nat.{_+_, _-_};
 ghost use lib.Dec.{leb};
 ghost use Rattle.words.specs.Words.{partOf};
 ghost use Rattle.input.specs.Fed.{Started, KeptByte, Taken, Feeding, Finished};
@@ -44,14 +45,17 @@ pub fn start(mesh: &mut [u32]) -> Verdict
     format(mesh, 0, 0)
 }
 
-// The first n bytes of the line; none where it is shorter.
-fn first(line: &[u8], n: usize) -> &[u8]
-    ensures { λ r. ⌜ now r ≡ partOf (now (line .entry)) 0 n ⌝ }
+// The bytes from one place up to another; none where they do not all lie in the list.
+pub fn part(bytes: &[u8], from: usize, to: usize) -> &[u8]
+    ensures { λ r. ⌜ now r ≡ partOf (now (bytes .entry)) from (to - from) ⌝ }
 {
-    if line.len() < n {
-        return &line[0..0];
+    if to < from {
+        return &bytes[0..0];
     }
-    &line[0..n]
+    if bytes.len() < to {
+        return &bytes[0..0];
+    }
+    &bytes[from..to]
 }
 
 // A byte more of the line; past its end nothing is kept.
@@ -86,7 +90,7 @@ fn take_byte(
     ensures { λ r. ⌜ Taken (now (mesh .entry)) (now (line .entry)) n b (now (out .entry)) at r (now (mesh .exit)) (now (line .exit)) (now (out .exit)) ⌝ }
 {
     if b == LINE_END {
-        let next = reply(mesh, first(line, n), out, at);
+        let next = reply(mesh, part(line, 0, n), out, at);
         return Places { line: 0, out: next };
     }
     let kept = keep(line, n, b);

@@ -1,5 +1,5 @@
 -- From what a call promises to the answer of its frame.
-use mathlib.Core.Path.{_≡_, sym, ap, _∙_}
+use mathlib.Core.Path.{_≡_, refl, sym, ap, _∙_}
 use mathlib.Core.Bool.{Bool, true, false, cond, _||_}
 use mathlib.Core.List.{List, [], _∷_, _++_}
 use Prim.Native.Nat.{ℕ, _+_, _<_, _≤_}
@@ -11,8 +11,9 @@ use lib.Seq.{take-append-seam}
 use Rattle.lists.proofs.Bools.{or-left, or-right}
 use Rattle.numbers.specs.Sizes.{mostCapacity, mostAround, capacities}
 use Rattle.numbers.specs.Room.{room}
-use Rattle.words.specs.Words.{partOf}
+use Rattle.words.specs.Words.{Only, partOf}
 use Rattle.words.proofs.Fits.{part-fits}
+use Rattle.words.proofs.Frame.{only-none}
 use Rattle.map.specs.declared.Refusal.{Refusal}
 use Rattle.map.specs.declared.Refusal.the-variants.{CapacityAbove, BadFrame}
 use Rattle.map.specs.declared.Verdict.{Verdict}
@@ -23,8 +24,9 @@ use Rattle.map.specs.declared.HalfAt.{HalfAt}
 use Rattle.map.specs.declared.HalfAt.the-variants as HalfAt′
 use Rattle.numbers.specs.declared.Half.{Half}
 use Rattle.map.specs.Cells.{Map, mapOf}
+use Rattle.map.specs.Sound.{Sound}
 use Rattle.map.specs.Stars.{star, anchors}
-use Rattle.map.specs.Answers.{Check, Answer, answer, listAnswer, formatChecks, starChecks, starAnswer, anchorsAnswer, siblingAnswer, _when_}
+use Rattle.map.specs.Answers.{Check, Answer, answer, listAnswer, formatChecks, starChecks, siblingAnswer, _when_}
 use Rattle.map.specs.History.{Edit, empty}
 use Rattle.map.specs.Says.{given, verdictSays, valueSays, halfSays}
 use Rattle.map.proofs.Says.{verdict-one}
@@ -35,9 +37,9 @@ use Rattle.ask.specs.Asked.{Asked}
 use Rattle.listing.specs.Listing.{Listing, listed}
 use Rattle.frames.specs.Frames.{Frame, Format, Change, Star, Anchors, Sibling, Bad, twoBytes, counted, cellAndFacet, replyTo, mapAfter, written}
 use Rattle.frames.specs.Forms.{Appended}
-use Rattle.frames.proofs.Replies.{reply-above, reply-format, map-format, map-above, reply-star, reply-star-refused, reply-anchors, reply-anchors-refused, reply-sibling, reply-sibling-refused, reply-bad}
+use Rattle.frames.proofs.Replies.{reply-above, reply-format, map-format, map-above, list-given, list-refused, reply-sibling, reply-sibling-refused, reply-bad}
 use Rattle.frames.proofs.Sizes.{verdict-length, half-length, cells-room, halves-room}
-use Rattle.reply.specs.Replied.{Keeps, FrameAnswered}
+use Rattle.reply.specs.Replied.{Keeps, FrameAnswered, reach}
 use Rattle.reply.proofs.Few.{star-few, anchors-few}
 
 -- a list that was given out stands in the first places
@@ -60,25 +62,52 @@ part-few l n k h = go (leb (0 + n) (length l))
     go true = omega (arith, length-take n l)
     go false = omega arith
 
+-- a question that a list answers: what it lists, how each number of the list is written, and that there is room for it
+pub record Lists (f : Frame) (checks : Map → List Check) (list : Map → List ℕ) (item : ℕ → List ℕ) : Type 0 where
+  replies : (m : Map) → replyTo m f ≡ answer (checks m) (counted item (list m))
+  leaves : (m : Map) → mapAfter m f ≡ m
+  few : (m : Map) → Sound m → length (list m) ≤ mostAround
+  fits : (l : List ℕ) → length l ≤ mostAround → length (written (given (counted item l))) ≤ 775
+
+pub star-lists : (d v : ℕ) → Lists (Star d v) (λ m. starChecks m d v) (λ m. star m d v) twoBytes
+unfolding replyTo mapAfter
+star-lists d v = record { replies = λ m. refl; leaves = λ m. refl; few = λ m s. star-few m s d v; fits = cells-room }
+
+pub anchors-lists : (d v : ℕ) → Lists (Anchors d v) (λ m. starChecks m d v) (λ m. anchors m d v) cellAndFacet
+unfolding replyTo mapAfter
+anchors-lists d v = record { replies = λ m. refl; leaves = λ m. refl; few = λ m s. anchors-few m s d v; fits = halves-room }
+
 module _ (w o : List ℕ) (at r : ℕ) (o′ : List ℕ) where
   -- a verdict written
   module _ (f : Frame) (w′ : List ℕ) (v : Verdict) (a : Appended (written (verdictSays v)) o at r o′) where
-    replied-so : ((m : Map) → Keeps w m → (replyTo m f ≡ verdictSays v) × Keeps w′ (mapAfter m f))
-        → FrameAnswered f w o at r w′ o′
-    replied-so g = record {
-      bytes = written (verdictSays v);
+    verdict-kept : (v : Verdict) → ((why : Refusal) → v ≡ Refused why → w′ ≡ w) → (verdictSays v .refusal ≡ 0 → ⊥) → w′ ≡ w
+    unfolding verdictSays given
+    verdict-kept Accepted k ne = absurd (ne refl)
+    verdict-kept (Refused why) k ne = k why refl
+
+    replied-so : ((why : Refusal) → v ≡ Refused why → w′ ≡ w) → Only (λ i. i < reach f w) w w′
+        → ((m : Map) → Keeps w m → (replyTo m f ≡ verdictSays v) × Keeps w′ (mapAfter m f)) → FrameAnswered f w o at r w′ o′
+    replied-so k i g = record {
+      says = verdictSays v;
       few = omega (arith, verdict-length v);
       appended = a;
-      answers = λ m k. let q = g m k in (ap written (sym (q .0)), q .1);
+      kept = verdict-kept v k;
+      within = i;
+      answers = λ m k. let q = g m k in (sym (q .0), q .1);
     }
+
+  -- a refusal written, and nothing else done
+  refused-so : (f : Frame) (why : Refusal) → Appended (written (verdictSays (Refused why))) o at r o′
+      → ((m : Map) → Keeps w m → (replyTo m f ≡ verdictSays (Refused why)) × (mapAfter m f ≡ m)) → FrameAnswered f w o at r w o′
+  refused-so f why a g =
+      replied-so f w (Refused why) a (λ _ _. refl) only-none (λ m k. let q = g m k in (q .0, rw (q .1) k))
 
   -- "The program keeps at most 384 marks and 384 cells; more is refused with 1."
   module _ (marks cells : ℕ) where
     above-so : ltb 384 marks || ltb 384 cells ≡ true → Appended (written (verdictSays (Refused CapacityAbove))) o at r o′
         → FrameAnswered (Format marks cells) w o at r w o′
     above-so h a =
-        replied-so (Format marks cells) w (Refused CapacityAbove) a
-        (λ m k. (reply-above m marks cells h, rw (map-above m marks cells h) k))
+        refused-so (Format marks cells) CapacityAbove a (λ m k. (reply-above m marks cells h, map-above m marks cells h))
 
     pub marks-above : 384 < marks → Appended (written (verdictSays (Refused CapacityAbove))) o at r o′ → FrameAnswered (Format marks cells) w o at r w o′
     marks-above h a = above-so (or-left (ltb 384 marks) (ltb 384 cells) (lt-ltb 384 marks h)) a
@@ -94,8 +123,8 @@ module _ (w o : List ℕ) (at r : ℕ) (o′ : List ℕ) where
 
     pub format-replied : (v : Verdict) (w′ : List ℕ) → marks ≤ 384 → cells ≤ 384 → Formatted w (capacities marks cells) v w′ → Appended (written (verdictSays v)) o at r o′
         → FrameAnswered (Format marks cells) w o at r w′ o′
-    unfolding mapOf empty
-    format-replied v w′ a b f p = replied-so (Format marks cells) w′ v p (λ m k. (
+    unfolding mapOf empty reach
+    format-replied v w′ a b f p = replied-so (Format marks cells) w′ v p (f .kept) (f .inside) (λ m k. (
       reply-format m marks cells (length w) v a b (k .fits) (f .says),
       rw (map-format m marks cells a b) (after (k .fits)),
     ))
@@ -110,8 +139,8 @@ module _ (w o : List ℕ) (at r : ℕ) (o′ : List ℕ) where
 
   pub edit-replied : (e : Edit) (v : Verdict) (w′ : List ℕ) → Edited w e v w′ → Appended (written (verdictSays v)) o at r o′
       → FrameAnswered (Change e) w o at r w′ o′
-  unfolding replyTo mapAfter
-  edit-replied e v w′ d p = replied-so (Change e) w′ v p (λ m k.
+  unfolding replyTo mapAfter reach
+  edit-replied e v w′ d p = replied-so (Change e) w′ v p (d .kept) (d .inside) (λ m k.
       let q = d .answers m (k .wf) in
       let caps = edited-caps m e in (
         sym (q .0),
@@ -120,74 +149,58 @@ module _ (w o : List ℕ) (at r : ℕ) (o′ : List ℕ) where
 
   pub bad-replied : Appended (written (verdictSays (Refused BadFrame))) o at r o′ → FrameAnswered Bad w o at r w o′
   unfolding mapAfter
-  bad-replied a = replied-so Bad w (Refused BadFrame) a (λ m k. (reply-bad m, k))
+  bad-replied a = refused-so Bad BadFrame a (λ m k. (reply-bad m, refl))
 
-  -- a query leaves the words
-  module _ (d v : ℕ) (zeros out : List ℕ) (value : Value) (size : length zeros ≡ mostAround) where
-    pub star-refused : Listing w (λ m. starChecks m d v) (λ m. star m d v) zeros value out → (why : Refusal) → value ≡ Value′.Refused why
-        → Appended (written (verdictSays (Refused why))) o at r o′ → FrameAnswered (Star d v) w o at r w o′
-    unfolding mapAfter starAnswer verdictSays valueSays
-    star-refused l why e a = replied-so (Star d v) w (Refused why) a (λ m k. (
-      reply-star-refused m d v (length zeros) why (omega (arith, star-few m (k .wf .sound) d v)) (ap valueSays (sym e) ∙ l .answers m (k .wf) .0),
-      k,
+  -- a question leaves the words
+  module _ (f : Frame) (checks : Map → List Check) (list : Map → List ℕ) (item : ℕ → List ℕ) (lists : Lists f checks list item)
+      (zeros out : List ℕ) (value : Value) (size : length zeros ≡ mostAround) (l : Listing w checks list zeros value out) where
+    few-places : (m : Map) → Keeps w m → length (list m) ≤ length zeros
+    few-places m k = omega (arith, lists .few m (k .wf .sound))
+
+    pub listing-refused : (why : Refusal) → value ≡ Value′.Refused why → Appended (written (verdictSays (Refused why))) o at r o′
+        → FrameAnswered f w o at r w o′
+    unfolding verdictSays valueSays
+    listing-refused why e a = refused-so f why a (λ m k. (
+      lists .replies m
+          ∙ list-refused (checks m) (list m) (counted item (list m)) (length zeros) (few-places m k) why (ap valueSays (sym e) ∙ l .answers m (k .wf) .0),
+      lists .leaves m,
     ))
 
-    pub anchors-refused : Listing w (λ m. starChecks m d v) (λ m. anchors m d v) zeros value out → (why : Refusal) → value ≡ Value′.Refused why
-        → Appended (written (verdictSays (Refused why))) o at r o′ → FrameAnswered (Anchors d v) w o at r w o′
-    unfolding mapAfter anchorsAnswer verdictSays valueSays
-    anchors-refused l why e a = replied-so (Anchors d v) w (Refused why) a (λ m k. (
-      reply-anchors-refused m d v (length zeros) why (omega (arith, anchors-few m (k .wf .sound) d v)) (ap valueSays (sym e) ∙ l .answers m (k .wf) .0),
-      k,
-    ))
-
-    module _ (n : ℕ) (e : value ≡ Value′.Is n) (list : List ℕ) (from : ℕ) (first : from ≡ 0) (q : list ≡ partOf out from n) (few : length out ≤ mostAround) where
-      p : list ≡ partOf out 0 n
-      p = rw first at q
-
-      pub star-replied : Listing w (λ m. starChecks m d v) (λ m. star m d v) zeros value out
-          → Appended (written (given (counted twoBytes list))) o at r o′ → FrameAnswered (Star d v) w o at r w o′
-      unfolding mapAfter starAnswer valueSays
-      star-replied l a = record {
-        bytes = written (given (counted twoBytes list));
-        few = cells-room list (rw p (part-few out n mostAround few));
-        appended = a;
-        answers = λ m k.
-            let short : length (star m d v) ≤ length zeros = omega (arith, star-few m (k .wf .sound) d v) in
-            let says : given (n ∷ []) ≡ starAnswer m d v (length zeros) = ap valueSays (sym e) ∙ l .answers m (k .wf) .0 in
-            let t = reply-star m d v (length zeros) n short says in
-            let is : list ≡ star m d v = p ∙ list-part (starChecks m d v) (star m d v) zeros out n short says (l .answers m (k .wf) .1) (t .0) in
-            (ap (λ (x : List ℕ). written (given (counted twoBytes x))) is ∙ ap written (sym (t .1)), k);
-      }
-
-      pub anchors-replied : Listing w (λ m. starChecks m d v) (λ m. anchors m d v) zeros value out
-          → Appended (written (given (counted cellAndFacet list))) o at r o′ → FrameAnswered (Anchors d v) w o at r w o′
-      unfolding mapAfter anchorsAnswer valueSays
-      anchors-replied l a = record {
-        bytes = written (given (counted cellAndFacet list));
-        few = halves-room list (rw p (part-few out n mostAround few));
-        appended = a;
-        answers = λ m k.
-            let short : length (anchors m d v) ≤ length zeros = omega (arith, anchors-few m (k .wf .sound) d v) in
-            let says : given (n ∷ []) ≡ anchorsAnswer m d v (length zeros) = ap valueSays (sym e) ∙ l .answers m (k .wf) .0 in
-            let t = reply-anchors m d v (length zeros) n short says in
-            let is : list ≡ anchors m d v = p ∙ list-part (starChecks m d v) (anchors m d v) zeros out n short says (l .answers m (k .wf) .1) (t .0) in
-            (ap (λ (x : List ℕ). written (given (counted cellAndFacet x))) is ∙ ap written (sym (t .1)), k);
-      }
+    pub listing-replied : (n : ℕ) → value ≡ Value′.Is n → (given-out : List ℕ) (from : ℕ) → from ≡ 0 → given-out ≡ partOf out from n → length out ≤ mostAround
+        → Appended (written (given (counted item given-out))) o at r o′ → FrameAnswered f w o at r w o′
+    unfolding given valueSays
+    listing-replied n e given-out from first q few a = record {
+      says = given (counted item given-out);
+      few = lists .fits given-out (rw p (part-few out n mostAround few));
+      appended = a;
+      kept = λ _. refl;
+      within = only-none;
+      answers = λ m k.
+          let says : given (n ∷ []) ≡ listAnswer (checks m) (list m) (length zeros) = ap valueSays (sym e) ∙ l .answers m (k .wf) .0 in
+          let t = list-given (checks m) (list m) (counted item (list m)) (length zeros) (few-places m k) n says in
+          let is : given-out ≡ list m = p ∙ list-part (checks m) (list m) zeros out n (few-places m k) says (l .answers m (k .wf) .1) (t .0) in
+          (ap (λ (x : List ℕ). given (counted item x)) is ∙ (sym (t .1) ∙ sym (lists .replies m)), rw (lists .leaves m) k);
+    }
+      where
+        p : given-out ≡ partOf out 0 n
+        p = rw first at q
 
   module _ (c f : ℕ) (value none : HalfAt) (asked : Asked halfSays none w (λ m. siblingAnswer m c f) value) where
     pub sibling-refused : (why : Refusal) → value ≡ HalfAt′.Refused why → Appended (written (verdictSays (Refused why))) o at r o′
         → FrameAnswered (Sibling c f) w o at r w o′
     unfolding mapAfter verdictSays halfSays
-    sibling-refused why e a = replied-so (Sibling c f) w (Refused why) a (λ m k. (
+    sibling-refused why e a = refused-so (Sibling c f) why a (λ m k. (
       reply-sibling-refused m c f why (ap halfSays (sym e) ∙ asked .answers m (k .wf)),
-      k,
+      refl,
     ))
 
     pub sibling-replied : (h : Half) → value ≡ HalfAt′.At h → Appended (written (given (cellAndFacet (h .0)))) o at r o′ → FrameAnswered (Sibling c f) w o at r w o′
     unfolding mapAfter halfSays
     sibling-replied h e a = record {
-      bytes = written (given (cellAndFacet (h .0)));
+      says = given (cellAndFacet (h .0));
       few = omega (arith, half-length (h .0));
       appended = a;
-      answers = λ m k. (ap written (sym (reply-sibling m c f (h .0) (ap halfSays (sym e) ∙ asked .answers m (k .wf)))), k);
+      kept = λ _. refl;
+      within = only-none;
+      answers = λ m k. (sym (reply-sibling m c f (h .0) (ap halfSays (sym e) ∙ asked .answers m (k .wf))), k);
     }

@@ -1,9 +1,10 @@
 // The answer to one line.
 //
 // What is here: `reply` reads a line as a frame, makes the call that it names on the lent words, and appends the answer's line. It has no
-// `requires`. What is proved: on any memory it appends 775 bytes at most, and leaves the other places of the output and the words beyond
-// the room of 384 marks and 384 cells; on the words of a map the bytes are those of crates/frames/specs/Frames.antt, and what is left are
-// the words of the map afterwards (specs/Replied.antt). What a caller should know: the line comes without its end.
+// `requires`. What is proved: on any memory it appends the line of an answer, 775 bytes at most, and leaves the other places of the output;
+// a refusal changes no word, and no frame changes one beyond its reach or beyond the room of 384 marks and 384 cells; on the words of a map
+// the line is that of crates/frames/specs/Frames.antt, and what is left are the words of the map afterwards (specs/Replied.antt). What a
+// caller should know: the line comes without its end.
 ghost use Rattle.map.specs.Cells.{bodyOf};
 ghost use Rattle.map.specs.History.{Insert, Remove};
 ghost use Rattle.frames.specs.Frames.{frameOf, Format, Change, Star, Anchors, Sibling, Bad};
@@ -128,7 +129,7 @@ pub fn reply(mesh: &mut [u32], line: &[u8], out: &mut [u8], at: usize) -> usize
 {
     let mut marks = [0u32; 14];
     let frame = read(line, &mut marks);
-    if mesh.len() <= ROOM {
+    if mesh.len() < ROOM {
         return obey(mesh, frame, &marks, out, at);
     }
     obey(&mut mesh[..ROOM], frame, &marks, out, at)

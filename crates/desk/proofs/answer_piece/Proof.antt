@@ -1,48 +1,24 @@
--- `desk::answer_piece` is safe and ends.
-use mathlib.Core.Path.{_≡_}
-use Prim.Native.Nat.{_-_, _≤_}
+-- `desk::answer_piece` meets its contract.
 use native.Mathlib.Omega.{arith}
-use lib.ListN.{length}
-use Rattle.desk.proofs.Rest.{rest-some}
+use Rattle.desk.proofs.Turning.{taken-within, answered-so}
 use borrow.Author.Needs.{needs}
 use Rattle.desk.proofs.answer_piece.Statement.{statement}
 use Rattle.desk.proofs.answer_piece.Tie as tie
 
-abbrev Inv-loop : tie.InvT-loop
-Inv-loop mesh₀ line₀ kept piece out₀ n₀ at₀ mesh line out n at =
-    (at ≤ length piece) × (775 ≤ length out) × (length mesh ≡ length mesh₀) × (length line ≡ length line₀)
+add-t18 : tie.Need-add-t18
+add-t18 c =
+    let at-feed = c .before .before .before .before .before .before .before .before .before .before .before in
+    let at-part = at-feed .before .before in
+    let at-args = at-part .before .before .before .before .before .before .before in
+    record { fits = omega (arith, taken-within _ _ (at-args .args .at) _ _ _ _ _ _ _ (at-feed .feed .ensures) 18446744073709551615 (at-part .part .ensures) (omega (arith, c .struct-known2 .given, c .before .struct-known .given)) (omega (arith, c .struct-known2 .given, c .before .struct-known .given))) }
 
-abbrev μ-loop : tie.MeasureT-loop
-μ-loop mesh₀ line₀ kept piece out₀ n₀ at₀ mesh line out n at = length piece - at
-
-loop-less : tie.Need-loop-less Inv-loop μ-loop
-loop-less c =
-    let at-feed = c .before .before .before .before .before .before .before .before .before .before in
-    let at-loop-test = at-feed .before .before .before .before .before in
-    let at-loop = at-loop-test .before in
-    let at-args = at-loop .before .before .before .before .before .before in
-    omega (arith, at-feed .feed .ensures .goes (rest-some (at-args .args .piece .now) (at-loop .loop .at) (at-loop-test .loop-test .taken)) (at-loop .loop .inv .1))
+returns : tie.Need-returns
+returns c =
+    let at-write-out = c .before .before in
+    let at-part2 = at-write-out .before in
+    let at-feed = c .before .before .before .before .before .before .before .before .before .before .before in
+    let at-part = at-feed .before .before in
+    answered-so _ _ _ _ _ _ _ _ _ _ (at-feed .feed .ensures) _ _ _ _ (at-part .part .ensures) (at-part2 .part2 .ensures) (omega arith) (at-write-out .write-out .ensures)
 
 pub answer-piece-spec : {M : Type 1} → statement M
-answer-piece-spec =
-    tie.close
-    (tie.spec
-    Inv-loop
-    μ-loop
-    (λ c κs. search needs)
-    (λ c. search needs)
-    (λ c. search needs)
-    (λ c. search needs)
-    (λ c. search needs)
-    (λ c. search needs)
-    (λ c κs. search needs)
-    (λ c κs. search needs)
-    (λ c. search needs)
-    (λ c. search needs)
-    (λ c. search needs)
-    (λ c. search needs)
-    loop-less
-    (λ c. search needs)
-    (λ c. search needs)
-    (λ c. search needs)
-    (λ c. search needs))
+answer-piece-spec = tie.close (tie.spec (λ c κs. search needs) (λ c κs. search needs) (λ c κs. search needs) (λ c κs. search needs) add-t18 (λ c. search needs) (λ c. search needs) (λ c. search needs) returns)

@@ -8,8 +8,8 @@ use Rattle.input.proofs.take_byte.Tie as tie
 returns : tie.Need-returns
 returns c =
     let at-reply = c .before .before .before .before in
-    let at-first = at-reply .before .before in
-    taken-line _ _ _ _ _ _ _ _ _ _ _ (omega arith) (omega arith) (at-first .first .ensures) (at-reply .reply .ensures)
+    let at-part = at-reply .before .before in
+    taken-line _ _ _ _ _ _ _ _ _ _ _ (omega arith) (omega arith) (at-part .part .ensures) (at-reply .reply .ensures)
 
 returns-2 : tie.Need-returns-2
 returns-2 c = taken-more _ _ _ _ _ _ _ _ (λ z. omega arith) (c .before .before .keep .ensures)
