@@ -2,3 +2,4 @@
 pub mod Clears
 pub mod Emptied
 pub mod Head
+pub mod One

@@ -18,15 +18,12 @@ use Rattle.lists.proofs.Order.{select-ascends, keep-ascends, first-least}
 use Rattle.shapes.specs.Shapes.{shape}
 use Rattle.shapes.proofs.Facts.{facts}
 use Rattle.map.specs.Cells.{Map, dimensionAt, holds, facetsAt, shares}
+use Rattle.map.specs.Sound.{Fitting}
 use Rattle.map.specs.Siblings.{isHalf, marksOf, border}
 use Rattle.map.specs.Stars.{star, linked, group, halvesAt, anchor, anchors}
 use Rattle.lists.proofs.Keep.{keep-in, keep-out, first-either, map-has}
 use Rattle.laws.proofs.Groups.{group-self, group-inside, one-group}
 use Rattle.shapes.specs.Sizes.{noFacet}
-
--- every cell has as many marks as its type says
-pub record Fitting (m : Map) : Type 0 where
-  pub count : (c : ℕ) → length (m .at c .marks) ≡ shape (m .at c .code) .marks
 
 module _ (m : Map) where
   -- of two cells that share a facet each shares it with the other

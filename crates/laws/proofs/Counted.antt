@@ -17,12 +17,12 @@ use Rattle.shapes.specs.Shapes.{shape, shapes, noShape}
 use Rattle.map.specs.Cells.{Body, Map, noCell, live, holds, cellsOf, facetsAt}
 use Rattle.map.specs.Siblings.{isHalf, sharers}
 use Rattle.map.specs.Stars.{holders}
-use Rattle.map.specs.History.{Edit, Insert, Remove, editAnswer, changed}
+use Rattle.map.specs.History.{Edit, Insert, Remove, editBody, editAnswer, changed}
 use Rattle.map.specs.Sound.{Sound}
 use Rattle.lists.proofs.Alike.{one-or-other, select-alike}
 use Rattle.laws.proofs.Cycles.{sharers-has}
 use Rattle.laws.proofs.Edits.{MayInsert, MayRemove, may-insert, may-remove, typed-coded}
-use Rattle.laws.proofs.Local.{OneMore, picked, picked-same, sharers-at, more-insert, more-remove, editBody}
+use Rattle.laws.proofs.Local.{OneMore, picked, picked-same, sharers-at, more-insert, more-remove}
 
 module _ (m m′ : Map) (c : ℕ) (x : Body) (r : OneMore m m′ c x) where
   module _ (p : Body → Bool) (empty : p noCell ≡ false) where

@@ -7,17 +7,17 @@ use Prim.Native.Nat.{ℕ, zero, suc, _<_, _≤_}
 use native.Mathlib.Omega.{arith}
 use borrow.Author.Tests.{eq-eqb, ne-eqb, eqb-true, eqb-false, leb-false, lt-leb, not-false}
 use lib.Dec.{eqb, leb}
-use lib.ListN.{length, getD}
+use lib.ListN.{length, getD, take, drop}
 use Rattle.lists.specs.Lists.{has, all, repeats, sameSet}
 use Rattle.lists.proofs.Bools.{clash, either, and-left, and-right}
 use Rattle.lists.proofs.Sets.{same-sym}
 use Rattle.lists.proofs.Select.{select-in, select-out}
 use Rattle.numbers.specs.declared.Caps.{Caps}
 use Rattle.shapes.specs.Shapes.{shape, shapes, noShape}
-use Rattle.map.specs.Cells.{Body, Map, noCell, bodyIn, mapOf, live, dimensionAt, holds, cellsOf}
+use Rattle.map.specs.Cells.{Body, bodyOf, Map, noCell, bodyIn, mapOf, live, dimensionAt, holds, cellsOf}
 use Rattle.map.specs.Stars.{holders}
 use Rattle.map.specs.Answers.{Check, _when_, answer, insertChecks, cellChecks}
-use Rattle.map.specs.History.{empty, Edit, Insert, Remove, editAnswer, put, changed, edited, history}
+use Rattle.map.specs.History.{empty, Edit, Insert, Remove, editAnswer, put, changed, edited, history, build, buildFrom}
 use Rattle.map.specs.Sound.{Sound}
 use Rattle.lists.proofs.Counts.{none-has, has-none, select-none, select-fewer, select-more}
 use Rattle.numbers.specs.Sizes.{mostAround}
@@ -47,6 +47,21 @@ pub history-caps : (m : Map) (es : List Edit) → history m es .caps ≡ m .caps
 unfolding history
 history-caps m [] = refl
 history-caps m (e ∷ es) = history-caps (edited m e) es ∙ edited-caps m e
+
+-- and a build
+build-keeps : (n place : ℕ) (m : Map) (words : List ℕ) → buildFrom n place m words .map .caps ≡ m .caps
+unfolding buildFrom empty mapOf
+build-keeps zero place m words = refl
+build-keeps (suc n) place m [] = refl
+build-keeps (suc n) place m (c ∷ []) = refl
+build-keeps (suc n) place m (c ∷ t ∷ rest) =
+    let e : Edit = Insert c (bodyOf t (take (shape t .marks) rest)) in
+    ⊎-elim (λ (ok : eqb (editAnswer m e .refusal) 0 ≡ true). rw (ok, buildFrom) (build-keeps n (suc place) (changed m e) (drop (shape t .marks) rest) ∙ changed-caps m e)) (λ (no : eqb (editAnswer m e .refusal) 0 ≡ false). rw (no, buildFrom))
+    (either (eqb (editAnswer m e .refusal) 0))
+
+pub build-caps : (caps : Caps) (words : List ℕ) → build caps words .map .caps ≡ caps
+unfolding build empty mapOf
+build-caps caps words = build-keeps (length words) 0 (empty caps) words
 
 -- where the answer is no refusal, no check fails
 passed : (checks : List Check) (values : List ℕ) → all (λ (c : Check). not (eqb (c .number) 0)) checks ≡ true

@@ -20,7 +20,7 @@ use Rattle.map.specs.Cells.{Body, Map, noCell, dimensionAt, holds, facetsAt, sh
 use Rattle.map.specs.Siblings.{isHalf, marksOf, sharers, siblings, sibling, border}
 use Rattle.map.specs.Groups.{grow, grown, groupOf}
 use Rattle.map.specs.Stars.{holders, star, linked, group, halvesAt, anchor, anchors}
-use Rattle.map.specs.History.{Edit, Insert, Remove, editAnswer, put, changed}
+use Rattle.map.specs.History.{Edit, Insert, Remove, cellOf, editBody, editAnswer, put, changed}
 use Rattle.map.specs.Sound.{Sound}
 use Rattle.lists.proofs.Alike.{one-or-other, keep-same, any-same, map-at, select-alike, and-false}
 use Rattle.laws.proofs.Anchors.{star-has, halves-has}
@@ -263,16 +263,6 @@ module _ (m : Map) (s : Sound m) (c : ℕ) where
   -- and so does a removal
   pub apart-remove : MayRemove m c → Apart m (changed m (Remove c)) c
   apart-remove r = apart-back _ _ c (more-remove r .apart)
-
--- the number of the cell that an edit puts or takes
-abbrev pub cellOf : Edit → ℕ
-cellOf (Insert c x) = c
-cellOf (Remove c) = c
-
--- and the cell
-abbrev pub editBody : Map → Edit → Body
-editBody m (Insert c x) = x
-editBody m (Remove c) = m .at c
 
 -- one cell more or less: in neither map the number holds a mark that the cell has not
 pub more-free : (m m′ : Map) (c : ℕ) (x : Body) → OneMore m m′ c x → (v : ℕ) → has v (x .marks) ≡ false → Free m m′ c v

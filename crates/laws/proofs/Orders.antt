@@ -9,22 +9,8 @@ use Rattle.lists.specs.Lists.{has, repeats, all}
 use Rattle.lists.proofs.Bools.{clash, or-left}
 use Rattle.numbers.specs.declared.Caps.{Caps}
 use Rattle.map.specs.Cells.{Body, Live, Map, bodyIn, mapOf}
+use Rattle.map.specs.Afresh.{Shuffled, none, same, swapped, then, numbers, Distinct}
 use Rattle.lists.proofs.Counts.{neither, eqb-swap}
-
--- the second list has the live cells of the first, in some order
-pub data Shuffled : List Live → List Live → Type 0 where
-  none : Shuffled [] []
-  same : {x : Live} {a b : List Live} → Shuffled a b → Shuffled (x ∷ a) (x ∷ b)
-  swapped : {x y : Live} {a : List Live} → Shuffled (x ∷ y ∷ a) (y ∷ x ∷ a)
-  then : {a b c : List Live} → Shuffled a b → Shuffled b c → Shuffled a c
-
--- the cell numbers of a list
-abbrev pub numbers : List Live → List ℕ
-numbers cells = map (λ (x : Live). x .number) cells
-
--- no cell number stands twice in the list
-abbrev pub Distinct : List Live → Type 0
-Distinct cells = repeats (numbers cells) ≡ false
 
 -- a list has its own cells
 pub shuffled-self : (a : List Live) → Shuffled a a

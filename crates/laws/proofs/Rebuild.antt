@@ -16,12 +16,12 @@ use Rattle.numbers.specs.declared.Caps.{Caps}
 use Rattle.map.specs.Cells.{Body, bodyOf, Live, Map, noCell, bodyIn, mapOf, live, liveAt, liveCells, dimensionAt, holds}
 use Rattle.map.specs.Stars.{holders}
 use Rattle.map.specs.History.{empty, Edit, Insert, editAnswer, put, changed, edited, history, Outcome, build, buildFrom}
+use Rattle.map.specs.Afresh.{Shuffled, numbers, Distinct, buildWords}
 use Rattle.map.specs.Sound.{Sound}
 use Rattle.lists.proofs.Select.{select-in, select-out}
 use Rattle.lists.proofs.Order.{select-ascends, asc-once}
 use Rattle.lists.proofs.Counts.{neither, select-fewer}
-use Rattle.laws.proofs.Orders.{Shuffled, numbers, Distinct, distinct-parts, order-free}
-use Rattle.laws.proofs.Orders.{shuffled-front, shuffled-distinct, shuffled-all, shuffled-same}
+use Rattle.laws.proofs.Orders.{distinct-parts, order-free, shuffled-front, shuffled-distinct, shuffled-all, shuffled-same}
 use Rattle.laws.proofs.Edits.{edited-changed, MayInsert, may-insert, insert-may, coded, none-holds, put-all, holders-more}
 
 -- a map of some of the cells of m
@@ -206,11 +206,6 @@ module _ (m : Map) where
     pub afresh : (other : List Live) → Shuffled (liveCells m) other
         → AllAccepted (empty (m .caps)) (inserts other) × (history (empty (m .caps)) (inserts other) ≡ m)
     afresh other o = let r = rebuild-any (m .caps) (liveCells m) other live-tidy o in (r .0, r .1 ∙ live-same)
-
--- the words of a build of a list: for each cell its number, its type code and its marks
-unfoldable pub buildWords : List Live → List ℕ
-buildWords [] = []
-buildWords (x ∷ xs) = x .number ∷ x .body .code ∷ (x .body .marks ++ buildWords xs)
 
 -- a record that is accepted is made, and the build goes on behind it
 build-next : (n place : ℕ) (m : Map) (c : ℕ) (x : Body) (words : List ℕ) → editAnswer m (Insert c x) .refusal ≡ 0

@@ -17,6 +17,16 @@ pub data Edit : Type 0 where
   Insert : ℕ → Body → Edit
   Remove : ℕ → Edit
 
+-- the number of the cell that an edit puts or takes
+abbrev pub cellOf : Edit → ℕ
+cellOf (Insert c x) = c
+cellOf (Remove c) = c
+
+-- and the cell
+abbrev pub editBody : Map → Edit → Body
+editBody m (Insert c x) = x
+editBody m (Remove c) = m .at c
+
 unfoldable pub editAnswer : Map → Edit → Answer
 editAnswer m (Insert c x) = answer (insertChecks m c x) []
 editAnswer m (Remove c) = answer (cellChecks m c) []

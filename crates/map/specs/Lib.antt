@@ -5,5 +5,6 @@ pub mod Stars
 pub mod Answers
 pub mod Says
 pub mod History
+pub mod Afresh
 pub mod Sound
 pub mod Cases

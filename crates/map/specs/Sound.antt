@@ -9,6 +9,10 @@ use Rattle.map.specs.Cells.{Map, noCell, live, dimensionAt, holds}
 use Rattle.map.specs.Stars.{holders}
 use Rattle.numbers.specs.Sizes.{mostAround}
 
+-- every cell has as many marks as its type says
+pub record Fitting (m : Map) : Type 0 where
+  pub count : (c : ℕ) → length (m .at c .marks) ≡ shape (m .at c .code) .marks
+
 pub record Sound (m : Map) : Type 0 where
   -- live numbers are below the capacity, and under the others stands no cell
   pub below : (c : ℕ) → live m c ≡ true → c < m .caps .cells

@@ -8,7 +8,7 @@ use native.Mathlib.Omega.{arith}
 use lib.ListN.{getD, set, take, length, length-set, length-take}
 use lib.Seq.{ext-getD, getD-take, length-take-le}
 use Rattle.words.specs.Words.{Only}
-use Rattle.words.proofs.Frame.{read-same, read-other, only-put, only-none, only-then}
+use Rattle.words.proofs.Frame.{read-same, read-other, only-put, only-none, only-then, only-one}
 use Rattle.numbers.specs.declared.Caps.{Caps}
 use Rattle.store.specs.Layout.{room}
 use Rattle.store.specs.Slots.{Slot, address, Within, read, writable, written}
@@ -84,6 +84,11 @@ pic-one w w′ caps s p q =
 -- "two well-formed memories of the same capacities and live cells are equal word for word, whatever the history"
 pub wf-one : (w w′ : List ℕ) (m : Map) → Wf w m → Wf w′ m → take (room (m .caps .marks) (m .caps .cells)) w ≡ take (room (m .caps .marks) (m .caps .cells)) w′
 wf-one w w′ m a b = pic-one w w′ (m .caps) (stateOf m) (a .picture) (b .picture)
+
+-- so two that differ from one memory in the room alone are the same, in the room and beyond
+pub wf-alone : {w a b : List ℕ} {m : Map} → Wf a m → Wf b m → Only (λ i. i < room (m .caps .marks) (m .caps .cells)) w a
+    → Only (λ i. i < room (m .caps .marks) (m .caps .cells)) w b → a ≡ b
+wf-alone {a = a} {b} {m} p q x y = only-one x y (wf-one a b m p q)
 
 -- steps one after another
 pub step-then : {caps : Caps} {w w′ w″ : List ℕ} {ok ok′ : State → Type 0} {f g : State → State} → Step caps w w′ ok f → Step caps w′ w″ ok′ g

@@ -1,42 +1,43 @@
 -- What a story leaves is what a mesh of the same capacities is, built afresh from its live cells in any order.
 use mathlib.Core.Path.{_≡_, sym, ap, _∙_, subst}
+use mathlib.Core.Bool.{Bool, true}
 use mathlib.Core.List.{List, []}
-use Prim.Native.Nat.{ℕ, _<_, _≤_}
-use native.Mathlib.Decide.{decLt}
+use Prim.Native.Nat.{ℕ, _≤_}
 use borrow.Author.Tests.{le-ltb}
-use lib.ListN.{getD, length, take}
-use lib.Seq.{ext-getD, getD-take}
+use lib.ListN.{length, take}
 use Rattle.numbers.specs.Room.{room}
-use Rattle.words.specs.Words.{Only}
+use Rattle.words.proofs.Frame.{only-none, only-one}
 use Rattle.numbers.specs.declared.Caps.{Caps}
 use Rattle.map.specs.Cells.{Live, Map, liveCells}
+use Rattle.map.specs.Afresh.{Shuffled, buildWords}
 use Rattle.map.specs.Answers.{Check, Answer, _when_, answer, formatChecks}
 use Rattle.map.specs.Says.{given, builtSays}
 use Rattle.map.specs.declared.Built.{Built}
 use Rattle.map.specs.declared.Built.the-variants.{Accepted}
 use Rattle.map.specs.declared.Value.{Value}
 use Rattle.map.proofs.Says.{value-one, built-one}
-use Rattle.laws.proofs.Orders.{Shuffled}
-use Rattle.laws.proofs.Rebuild.{buildWords, afresh-built}
+use Rattle.laws.proofs.Rebuild.{afresh-built}
 use Rattle.picture.specs.Picture.{Wf}
 use Rattle.picture.proofs.Put.{wf-one}
 use Rattle.ask.specs.Asked.{Asked, Handed}
 use Rattle.listing.specs.Listing.{Listing}
 use Rattle.build.specs.Builds.{placed, formatRefusal, buildAnswer, Builds}
+use Rattle.whole.specs.Whole.{Whole}
+use Rattle.whole.proofs.One.{whole-yes}
 use Rattle.stories.specs.Story.{Story}
 use Rattle.stories.proofs.Stories.{story-wf}
 use Rattle.numbers.specs.Sizes.{mostCapacity}
 
--- two well-formed memories of one map answer every query alike
+-- Two well-formed memories of one map answer every query alike. So, where they are one memory, nothing else fits the promise of a query.
 module _ {a b : List ℕ} {m : Map} (x : Wf a m) (y : Wf b m) where
-  asked-alike : {A : Type 0} {says : A → Answer} {noMesh : A} {answer : Map → Answer} {r r′ : A}
+  pub asked-alike : {A : Type 0} {says : A → Answer} {noMesh : A} {answer : Map → Answer} {r r′ : A}
       → Asked says noMesh a answer r → Asked says noMesh b answer r′ → says r ≡ says r′
   asked-alike p q = p .answers m x ∙ sym (q .answers m y)
 
-  handed-alike : {part : Map → List ℕ} {r r′ : List ℕ} → Handed a part r → Handed b part r′ → r ≡ r′
+  pub handed-alike : {part : Map → List ℕ} {r r′ : List ℕ} → Handed a part r → Handed b part r′ → r ≡ r′
   handed-alike p q = p .answers m x ∙ sym (q .answers m y)
 
-  listed-alike : {checks : Map → List Check} {list : Map → List ℕ} {o o′ o″ : List ℕ} {r r′ : Value}
+  pub listed-alike : {checks : Map → List Check} {list : Map → List ℕ} {o o′ o″ : List ℕ} {r r′ : Value}
       → Listing a checks list o r o′ → Listing b checks list o r′ o″ → (r ≡ r′) × (o′ ≡ o″)
   listed-alike {r = r} {r′} p q =
       let u = p .answers m x in
@@ -85,16 +86,12 @@ module _ {w : List ℕ} {m : Map} (s : Story w m) (other : List Live) (order : S
       → Listing w checks list o x o′ → Listing b′ checks list o y o″ → (x ≡ y) × (o′ ≡ o″)
   afresh-listed = listed-alike (story-wf s) afresh-wf
 
--- memory that only changes in its first words, and there not, does not change
-only-same : (n : ℕ) (a b : List ℕ) → Only (λ i. i < n) a b → take n b ≡ take n a → b ≡ a
-only-same n a b only e = ext-getD 0 b a (only .size) (λ i h. go i (decLt i n))
-  where
-    go : (i : ℕ) → Dec (i < n) → getD b i 0 ≡ getD a i 0
-    go i (yes h) = sym (getD-take n b i 0 h) ∙ (ap (λ (l : List ℕ). getD l i 0) e ∙ getD-take n a i 0 h)
-    go i (no f) = only .same i f
+  -- the whole check says yes of it
+  pub afresh-whole : {x : Bool} → Whole b′ x → x ≡ true
+  afresh-whole = whole-yes afresh-wf
 
 -- the evening's rebuild in the afternoon's own memory, from its live cells in any order, leaves every word as it was
 pub rebuilt-in-place : {w w′ : List ℕ} {m : Map} {r : Built} → Story w m → (other : List Live) → Shuffled (liveCells m) other
     → Builds w (m .caps) (buildWords other) r w′ → w′ ≡ w
-rebuilt-in-place {w} {w′} s other order builds =
-    only-same _ w w′ (builds .inside) (afresh-words s other order builds (story-wf s .picture .fits))
+rebuilt-in-place s other order builds =
+    only-one (builds .inside) only-none (afresh-words s other order builds (story-wf s .picture .fits))

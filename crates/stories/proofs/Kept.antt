@@ -16,12 +16,12 @@ use Rattle.map.specs.Cells.{Body, Map, holds}
 use Rattle.map.specs.Siblings.{isHalf, marksOf, sibling}
 use Rattle.map.specs.Stars.{holders}
 use Rattle.map.specs.Answers.{Answer}
-use Rattle.map.specs.History.{Edit, editAnswer, changed}
+use Rattle.map.specs.History.{Edit, cellOf, editBody, editAnswer, changed}
 use Rattle.map.specs.Sound.{Sound}
 use Rattle.map.specs.Says.{verdictSays, given}
 use Rattle.map.specs.declared.Verdict.the-variants.{Accepted}
 use Rattle.laws.proofs.Edits.{edited-changed}
-use Rattle.laws.proofs.Local.{Apart, Free, half-other, holds-other, holders-free, half-inside, sibling-free, anchors-free, cellOf, editBody, apart-changed, free-changed}
+use Rattle.laws.proofs.Local.{Apart, Free, half-other, holds-other, holders-free, half-inside, sibling-free, anchors-free, apart-changed, free-changed}
 use Rattle.picture.specs.State.{stateOf}
 use Rattle.picture.specs.Picture.{chainOf, ahead, linkTo, link, corner, linkWord, markWord, cellWord, wordOf, Wf}
 use Rattle.picture.proofs.Bodies.{ahead-there}

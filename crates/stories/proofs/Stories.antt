@@ -1,5 +1,7 @@
--- After any story memory is well-formed for the map that the story leaves, and every query answers by definition over its cells.
+-- After any story memory is well-formed for the map that the story leaves, every query answers by definition over its cells, and the whole
+-- check says yes.
 use mathlib.Core.Path.{_≡_, refl}
+use mathlib.Core.Bool.{Bool, true}
 use mathlib.Core.List.{List}
 use Prim.Native.Nat.{ℕ}
 use lib.ListN.{length}
@@ -11,13 +13,17 @@ use Rattle.picture.specs.Picture.{Wf}
 use Rattle.ask.specs.Asked.{Asked, Handed}
 use Rattle.listing.specs.Listing.{Listing, listed}
 use Rattle.mesh.proofs.Evening.{run-wf}
-use Rattle.stories.specs.Story.{Story, formatted, built, then}
+use Rattle.whole.specs.Whole.{Whole}
+use Rattle.whole.proofs.One.{whole-yes}
+use Rattle.stories.specs.Story.{Story, formatted, built, then, refusedFormat, refusedBuild}
 
 -- memory is well-formed for the map of the cells that the edits leave
 pub story-wf : {w : List ℕ} {m : Map} → Story w m → Wf w m
 story-wf (formatted f) = f .wf refl
 story-wf (built b ok) = b .wf ok
 story-wf (then s run) = run-wf run _ (story-wf s)
+story-wf (refusedFormat s f) = rw (f .kept _ refl) (story-wf s)
+story-wf (refusedBuild s b short) = rw (b .kept short) (story-wf s)
 
 module _ {w : List ℕ} {m : Map} (s : Story w m) where
   -- a query answers as the definition does over those cells
@@ -34,3 +40,7 @@ module _ {w : List ℕ} {m : Map} (s : Story w m) where
       → (valueSays r ≡ listAnswer (checks m) (list m) (length o))
       × (o′ ≡ listed (listAnswer (checks m) (list m) (length o)) (list m) o)
   story-listed q = q .answers m (story-wf s)
+
+  -- the whole check says yes
+  pub story-whole : {r : Bool} → Whole w r → r ≡ true
+  story-whole = whole-yes (story-wf s)

@@ -5,3 +5,4 @@ pub mod Readings
 pub mod Settling
 pub mod Deciding
 pub mod Wholes
+pub mod One

@@ -3,6 +3,7 @@ use mathlib.Core.Path.{_≡_, refl, sym, ap, _∙_, subst}
 use mathlib.Core.Bool.{Bool, true, false, cond}
 use mathlib.Core.List.{List, []}
 use Prim.Native.Nat.{ℕ, _+_, _-_, _<_, _≤_, min}
+use native.Mathlib.Decide.{decLt}
 use native.Mathlib.Omega.{arith}
 use borrow.Author.Tests.{leb-true}
 use lib.Dec.{leb}
@@ -47,6 +48,14 @@ module _ {P : ℕ → Type 0} where
 -- only no place changes: nothing changes
 pub only-nowhere : {m m′ : List ℕ} → Only (λ _. ⊥) m m′ → m′ ≡ m
 only-nowhere {m} {m′} a = ext-getD 0 m′ m (a .size) (λ at h. a .same at (λ e. e))
+
+-- two memories that differ from one memory in their first n words alone, and have those alike, are the same
+pub only-one : {n : ℕ} {m a b : List ℕ} → Only (λ i. i < n) m a → Only (λ i. i < n) m b → take n a ≡ take n b → a ≡ b
+only-one {n} {m} {a} {b} x y e = ext-getD 0 a b (x .size ∙ sym (y .size)) (λ i h. go i (decLt i n))
+  where
+    go : (i : ℕ) → Dec (i < n) → getD a i 0 ≡ getD b i 0
+    go i (yes h) = sym (getD-take n a i 0 h) ∙ (ap (λ (l : List ℕ). getD l i 0) e ∙ getD-take n b i 0 h)
+    go i (no f) = x .same i f ∙ sym (y .same i f)
 
 -- a part of which no word changes is the same part
 pub part-same : {P : ℕ → Type 0} {m m′ : List ℕ} (at n : ℕ) → Only P m m′ → ((k : ℕ) → k < n → P (at + k) → ⊥) → partOf m′ at n ≡ partOf m at n
