@@ -9,7 +9,7 @@ use Rattle.words.specs.Words.{Only}
 use Rattle.words.proofs.Frame.{only-none, only-then, only-wider}
 use Rattle.numbers.specs.declared.Caps.{Caps}
 use Rattle.numbers.specs.Sizes.{mostCapacity}
-use Rattle.store.specs.Layout.{room}
+use Rattle.store.specs.Layout.{headWords, room}
 use Rattle.store.specs.Fields.{Magic, MarkCap, CellCap, Count, HeadRest}
 use Rattle.store.specs.Slots.{Slot, InHead, InMark, InCell, address, Within, read}
 use Rattle.store.specs.Open.{headed}
@@ -31,7 +31,7 @@ use Rattle.format.proofs.Emptied.{empty-word}
 
 module _ (w w′ : List ℕ) (caps : Caps) (clear : Cleared (room (caps .marks) (caps .cells)) w w′) where
   -- the room holds the head
-  some : 16 ≤ room (caps .marks) (caps .cells)
+  some : headWords ≤ room (caps .marks) (caps .cells)
   unfolding room
   some = omega arith
 
@@ -41,7 +41,7 @@ module _ (w w′ : List ℕ) (caps : Caps) (clear : Cleared (room (caps .marks) 
   unfolding read headNumber wordOf headWord
   head-word long x h = go x h
     where
-      long′ : 16 ≤ length w′
+      long′ : headWords ≤ length w′
       long′ = omega (arith, some, clear .size)
 
       rest : (x : Slot) → Within (caps .marks) (caps .cells) x → headNumber x ≡ 0 → read (headed w′ caps) caps x ≡ wordOf caps (stateOf (empty caps)) x

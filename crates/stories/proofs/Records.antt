@@ -16,7 +16,7 @@ use Rattle.numbers.proofs.Inverse.{half-cell, half-facet}
 use Rattle.shapes.specs.Shapes.{facetCount}
 use Rattle.shapes.specs.Sizes.{mostFacets, mostCode}
 use Rattle.shapes.proofs.Facts.{facts}
-use Rattle.store.specs.Layout.{markWords, markAt, nearAt}
+use Rattle.store.specs.Layout.{partWords, markWords, markAt, nearAt}
 use Rattle.store.specs.Fields.{Count, Anchor, markPlace, Place, InNear, InFar, Code, Sib, cellPlace}
 use Rattle.store.specs.Slots.{InHead, InCell, placeAt, address, read}
 use Rattle.map.specs.Cells.{Map, live, cellsOf}
@@ -68,7 +68,7 @@ sibling-in {w} {m} wf c below f h =
 module _ {w w′ : List ℕ} {m m′ : Map} (wf : Wf w m) (wf′ : Wf w′ m′) where
   -- one cell number, below both capacities, with the same 16 words in the first part of both records
   module _ (c : ℕ) (below : c < m .caps .cells) (below′ : c < m′ .caps .cells)
-      (same : (k : ℕ) → k < 16 → getD w (nearAt (m .caps .marks) c + k) 0 ≡ getD w′ (nearAt (m′ .caps .marks) c + k) 0) where
+      (same : (k : ℕ) → k < partWords → getD w (nearAt (m .caps .marks) c + k) 0 ≡ getD w′ (nearAt (m′ .caps .marks) c + k) 0) where
     -- the cell is of one type in both
     pub code-fixed : m .at c .code ≡ m′ .at c .code
     unfolding read address placeAt cellPlace wordIn

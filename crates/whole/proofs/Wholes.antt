@@ -16,7 +16,7 @@ use Rattle.numbers.specs.declared.Caps.{Caps}
 use Rattle.numbers.specs.Sizes.{mostCapacity}
 use Rattle.store.specs.declared.Opened.the-variants.{Mesh, Nothing}
 use Rattle.shapes.specs.Sizes.{mostFacets, mostCode}
-use Rattle.store.specs.Layout.{magic, room}
+use Rattle.store.specs.Layout.{headWords, magic, room}
 use Rattle.store.specs.Fields.{Magic, MarkCap, CellCap, Count}
 use Rattle.store.specs.Slots.{InHead, read, codeIn}
 use Rattle.store.specs.Open.{headIn, capsIn, isMesh, opened}
@@ -53,7 +53,7 @@ module _ (w : List ℕ) (caps : Caps) (opens : Mesh caps ≡ opened w) where
   unfolding isMesh capsIn headIn
   headed =
       let o = mesh-opened w caps opens in
-      let a = and-right (leb 16 (length w)) _ (o .0) in
+      let a = and-right (leb headWords (length w)) _ (o .0) in
       let b = and-right (eqb (headIn w Magic) magic) _ a in
       let c = and-right (leb (headIn w MarkCap) mostCapacity) _ b in
       let d = and-right (leb (headIn w CellCap) mostCapacity) _ c in
