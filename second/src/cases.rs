@@ -3,7 +3,8 @@
 //!
 //! P1 to P12 are the twelve cases. R13 on are runs besides: a cell that comes
 //! back, quads, a mesh emptied again, a record cut short, edits that are all
-//! refused, memory that is no mesh. `bound` lines are the outline's "To run":
+//! refused, request 3's two quads that only look joined and two that share two
+//! edges, memory that is no mesh. `bound` lines are the outline's "To run":
 //! capacities, rooms, a mark's 128th and 129th cell, lists that fit exactly
 //! and lists one place too long.
 
@@ -105,6 +106,16 @@ const CASES: &[Case] = &[
             Remove(1),
         ],
     ),
+    case(
+        "R18",
+        &[(0, QUAD, &[0, 1, 2, 3]), (1, QUAD, &[0, 4, 1, 2])],
+        &[],
+    ),
+    case(
+        "R19",
+        &[(0, QUAD, &[0, 1, 2, 3]), (1, QUAD, &[0, 1, 2, 4])],
+        &[],
+    ),
 ];
 
 /// All of it, one answer or one group of answers a line.
@@ -113,7 +124,7 @@ pub fn text() -> String {
     for case in CASES {
         text.case(case);
     }
-    text.everything("R18", &Memory::lent(WORDS));
+    text.everything("R20", &Memory::lent(WORDS));
     text.formats();
     text.full_mark();
     text.lines

@@ -123,9 +123,13 @@ pub fn share_facet(one: &LiveCell, other: &LiveCell) -> bool {
     half_facets_of(one).iter().any(shared)
 }
 
-/// "two cells of a star are linked if they share a facet"
-pub fn linked(one: &LiveCell, other: &LiveCell) -> bool {
-    share_facet(one, other)
+/// "Link two cells of a star only if they share a facet that holds the mark."
+pub fn linked(one: &LiveCell, other: &LiveCell, mark: Mark) -> bool {
+    let of_other = half_facets_of(other);
+    let shared = |half: &HalfFacet| of_other.iter().any(|by| same_set(&half.marks, &by.marks));
+    half_facets_of(one)
+        .iter()
+        .any(|half| half.marks.contains(&mark) && shared(half))
 }
 
 /// "A group is a largest set joined by links." Takes in linked cells of the
@@ -137,7 +141,7 @@ pub fn groups(live: &[LiveCell], dimension: u32, mark: Mark) -> Vec<Vec<&LiveCel
         let mut group = vec![left.remove(0)];
         while let Some(place) = left
             .iter()
-            .position(|cell| group.iter().any(|member| linked(member, cell)))
+            .position(|cell| group.iter().any(|member| linked(member, cell, mark)))
         {
             group.push(left.remove(place));
         }

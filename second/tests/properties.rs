@@ -104,9 +104,12 @@ fn groups_part_the_star_and_are_the_largest_joined_sets() {
             all.sort();
             assert_eq!(memory.star(dimension, mark, PLENTY), Ok(all));
             for group in &groups {
-                assert!(is_joined(&memory, group), "{group:?}");
+                assert!(is_joined(&memory, mark, group), "{group:?}");
                 for other in groups.iter().filter(|&other| other != group) {
-                    assert!(!is_linked(&memory, group, other), "{group:?} {other:?}");
+                    assert!(
+                        !is_linked(&memory, mark, group, other),
+                        "{group:?} {other:?}"
+                    );
                 }
                 largest = largest.max(group.len());
             }
@@ -128,18 +131,24 @@ fn groups_of(memory: &Memory, dimension: u32, mark: u32) -> Vec<Vec<u32>> {
     groups.iter().map(cells).collect()
 }
 
-fn is_linked(memory: &Memory, some: &[u32], others: &[u32]) -> bool {
-    some.iter().any(|&cell| {
-        let neighbours = memory.neighbours(cell, PLENTY).unwrap();
-        neighbours.iter().any(|it| others.contains(it))
-    })
+/// Whether the cycle of a half-facet of the one that holds the mark leads to
+/// the others.
+fn is_linked(memory: &Memory, mark: u32, some: &[u32], others: &[u32]) -> bool {
+    let halves = live(memory).iter().flat_map(map::half_facets_of);
+    halves
+        .filter(|half| some.contains(&half.cell.0) && half.marks.contains(&Mark(mark)))
+        .any(|half| {
+            let cycle = memory.cycle(half.cell.0, half.facet, PLENTY).unwrap();
+            cycle.iter().any(|it| others.contains(&(it / 8)))
+        })
 }
 
 /// Whether links inside the group lead from its first cell to all of it.
-fn is_joined(memory: &Memory, group: &[u32]) -> bool {
+fn is_joined(memory: &Memory, mark: u32, group: &[u32]) -> bool {
     let mut reached = vec![group[0]];
     for _ in group {
-        let beyond = |&cell: &u32| !reached.contains(&cell) && is_linked(memory, &[cell], &reached);
+        let beyond =
+            |&cell: &u32| !reached.contains(&cell) && is_linked(memory, mark, &[cell], &reached);
         let more: Vec<u32> = group.iter().copied().filter(beyond).collect();
         reached.extend(more);
     }

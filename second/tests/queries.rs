@@ -132,13 +132,28 @@ fn a_group_is_joined_through_its_members() {
     assert_eq!(fan.anchors(2, 0, PLENTY), Ok(vec![0]));
 }
 
-/// "two cells of a star are linked if they share a facet", also one that does
-/// not hold the mark.
+/// "Link two cells of a star only if they share a facet that holds the mark.
+/// For this pair mark 0 then has two anchors." At the marks of the shared edge
+/// there is one.
 #[test]
-fn two_quads_joined_away_from_the_mark_are_one_group() {
+fn two_quads_joined_away_from_the_mark_are_two_groups() {
     let quads = mesh(6, 4, &[(0, QUAD, &[0, 1, 2, 3]), (1, QUAD, &[0, 4, 1, 2])]);
     assert_eq!(quads.sibling(0, 1), Ok(10));
-    assert_eq!(quads.anchors(2, 0, PLENTY), Ok(vec![0]));
+    assert_eq!(quads.anchors(2, 0, PLENTY), Ok(vec![0, 8]));
+    assert_eq!(quads.anchors(2, 1, PLENTY), Ok(vec![0]));
+    assert_eq!(quads.anchors(2, 2, PLENTY), Ok(vec![2]));
+}
+
+/// Two shared edges, of marks 0 and 1 and of marks 1 and 2: at mark 0 one of
+/// them links, at mark 2 the other.
+#[test]
+fn two_quads_that_share_two_edges_are_one_group_by_the_one_at_the_mark() {
+    let quads = mesh(6, 4, &[(0, QUAD, &[0, 1, 2, 3]), (1, QUAD, &[0, 1, 2, 4])]);
+    assert_eq!(quads.sibling(0, 0), Ok(8));
+    assert_eq!(quads.sibling(0, 1), Ok(9));
+    for mark in 0..3 {
+        assert_eq!(quads.anchors(2, mark, PLENTY).map(|them| them.len()), Ok(1));
+    }
 }
 
 /// Tetrahedra that share only an edge are two groups of its marks.

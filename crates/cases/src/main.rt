@@ -42,11 +42,32 @@ const MARKS: u32 = 5;
 const CELLS: u32 = 4;
 
 // How many cases there are. P1 to P12 are the outline's. R13 on are runs besides: a cell that comes back; quads with a triangle and a
-// bar; a mesh emptied again; a record cut short; edits that are all refused.
-const CASES: usize = 17;
+// bar; a mesh emptied again; a record cut short; edits that are all refused; request 3's two quads that only look joined, and two that
+// share two edges.
+const CASES: usize = 19;
 
 // How many words the records of each case have, and the records, padded with 0.
-const SIZES: [u32; CASES] = [0, 5, 10, 15, 10, 12, 20, 8, 15, 5, 0, 11, 15, 17, 20, 10, 5];
+const SIZES: [u32; CASES] = [
+    0,
+    5,
+    10,
+    15,
+    10,
+    12,
+    20,
+    8,
+    15,
+    5,
+    0,
+    11,
+    15,
+    17,
+    20,
+    10,
+    5,
+    12,
+    12,
+];
 
 const BUILT: [[u32; 20]; CASES] = [
     [0, 0, 0, 0, 0, 0, 0, 0, 0, 0, 0, 0, 0, 0, 0, 0, 0, 0, 0, 0],
@@ -66,6 +87,8 @@ const BUILT: [[u32; 20]; CASES] = [
     [0, 2, 0, 2, 1, 1, 2, 0, 1, 3, 2, 2, 1, 2, 3, 3, 2, 2, 0, 3],
     [0, 2, 0, 1, 2, 1, 4, 0, 1, 2, 0, 0, 0, 0, 0, 0, 0, 0, 0, 0],
     [0, 2, 0, 1, 2, 0, 0, 0, 0, 0, 0, 0, 0, 0, 0, 0, 0, 0, 0, 0],
+    [0, 3, 0, 1, 2, 3, 1, 3, 0, 4, 1, 2, 0, 0, 0, 0, 0, 0, 0, 0],
+    [0, 3, 0, 1, 2, 3, 1, 3, 0, 1, 2, 4, 0, 0, 0, 0, 0, 0, 0, 0],
 ];
 
 // The edits after the builds, in order: case, 1 for an insert and 0 for a removal, cell, type, how many marks, the marks.
@@ -439,7 +462,7 @@ fn one_case(p: u32) {
 // Memory that is no mesh.
 fn no_mesh() {
     let w = [0u32; 184];
-    everything(&w, 18);
+    everything(&w, 20);
 }
 
 fn try_format(w: &mut [u32], marks: u32, cells: u32) {
@@ -576,7 +599,7 @@ fn full_mark() {
 }
 
 fn main() {
-    for p in 1..18 {
+    for p in 1..20 {
         one_case(p);
     }
     no_mesh();

@@ -287,14 +287,14 @@ module _ (w : List ℕ) (caps : Caps) (rows : List (List (List ℕ))) (d v : ℕ
         asc-same (map half (select own n)) (anchors m d v) list-ascends (anchors-ascend m d v)
         (λ k. same-test _ _ (listed-is k) (is-listed k))
 
-  links-are : (i j : ℕ) → i < n → j < n → (i ≡ j → ⊥) → linkIn w caps cells i j ≡ linked m v (getD cells i 0) (getD cells j 0)
-  unfolding linkIn linked
+  links-are : (i j : ℕ) → i < n → j < n → (i ≡ j → ⊥) → linkIn w caps rows v cells i j ≡ linked m v (getD cells i 0) (getD cells j 0)
+  unfolding linkIn
   links-are i j hi hj apart =
-      linked-read w caps s p (a .settled) (getD cells i 0) (getD cells j 0) (cell-below i hi) (λ e. apart (place-one m d v cells n st i j hi hj e))
+      linked-read w caps s p (a .settled) rows (a .types) v (getD cells i 0) (getD cells j 0) (cell-below i hi) (λ e. apart (place-one m d v cells n st i j hi hj e))
 
 pub anchors-gives : (w : List ℕ) (caps : Caps) (rows : List (List (List ℕ))) (d v : ℕ) (zeros cells blank lab o o′ : List ℕ) (n r : ℕ)
     → Gives w caps mostAround (AtMark caps v) (λ m. star m d v) zeros n cells → length zeros ≡ mostAround
-    → Labelled (linkIn w caps cells) n blank lab → length blank ≡ mostAround
+    → Labelled (linkIn w caps rows v cells) n blank lab → length blank ≡ mostAround
     → Copied (anchorsIn (placeIn w caps rows v cells lab (8 * n)) cells n) o r o′
     → Gives w caps mostAround (Around caps rows v) (λ m. anchors m d v) o r o′
 anchors-gives w caps rows d v zeros cells blank lab o o′ n r stars room labs space list = record {
@@ -302,7 +302,7 @@ anchors-gives w caps rows d v zeros cells blank lab o o′ n r stars room labs s
   size = list .filled .size;
   gives = λ s p a.
       let st = starred (mapWith caps s) d v zeros cells n (stars .gives s p (record { ready = a .settled .ready; mark = a .mark })) (omega (arith, stars .few)) in
-      let gr = grouped (mapWith caps s) d v cells n st (linkIn w caps cells) blank lab (omega (arith, stars .few)) labs (links-are w caps rows d v s p a cells n st) in
+      let gr = grouped (mapWith caps s) d v cells n st (linkIn w caps rows v cells) blank lab (omega (arith, stars .few)) labs (links-are w caps rows d v s p a cells n st) in
       rw (anchors-are w caps rows d v s p a cells n st lab gr) at list;
 }
 
@@ -317,7 +317,7 @@ pub anchors-none : (w : List ℕ) (caps : Caps) (rows : List (List (List ℕ))) 
 anchors-none w caps rows d v zeros cells o n stars room e =
     anchors-gives w caps rows d v zeros cells zeros zeros o o n 0 stars room none room (rw e (none-listed _ cells o))
   where
-    none : Labelled (linkIn w caps cells) n zeros zeros
+    none : Labelled (linkIn w caps rows v cells) n zeros zeros
     none = record {
       size = refl;
       linked = λ _ a b below high link. absurd (omega arith);

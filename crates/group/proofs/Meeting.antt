@@ -1,6 +1,6 @@
 -- Whether a cell is met along the sibling words, step by step and facet by facet.
 use mathlib.Core.Path.{_≡_, refl, sym, ap, _∙_}
-use mathlib.Core.Bool.{Bool, true, false}
+use mathlib.Core.Bool.{Bool, true, false, not, _&&_}
 use mathlib.Core.List.{List}
 use mathlib.Core.Logic.{⊎-elim}
 use Prim.Native.Nat.{ℕ, zero, suc, _+_, _-_, _/_, _%_, _<_}
@@ -8,12 +8,14 @@ use native.Mathlib.Nat.{not-suc-le-zero, eq-or-lt-of-le}
 use native.Mathlib.Omega.{arith}
 use borrow.Author.Tests.{eq-eqb, ne-eqb}
 use lib.ListN.{getD}
-use Rattle.lists.proofs.Bools.{clash, or-cases, or-left, or-right}
+use Rattle.lists.proofs.Bools.{clash, or-cases, or-left, or-right, not-false-true}
+use Rattle.lists.specs.Lists.{has}
+use Rattle.facet.specs.Facet.{facetIn}
 use Rattle.numbers.specs.Half.{cut, halfOf}
 use Rattle.shapes.specs.Shapes.{facetCount}
 use Rattle.numbers.specs.declared.Caps.{Caps}
 use Rattle.store.specs.Slots.{codeIn}
-use Rattle.group.specs.Labels.{anyBelow, sibAt, meetsIn, metIn, linkedIn}
+use Rattle.group.specs.Labels.{anyBelow, sibAt, meetsIn, metIn, joinsIn, linkedIn}
 use Rattle.numbers.specs.Sizes.{mostAround}
 
 pub below-found : (n : ℕ) (p : ℕ → Bool) (k : ℕ) → k < n → p k ≡ true → anyBelow n p ≡ true
@@ -78,20 +80,30 @@ module _ (w : List ℕ) (caps : Caps) (start b : ℕ) where
       pub met-more : (h ≡ start → ⊥) → (h / 8 ≡ b → ⊥) → (h′ : ℕ) → h′ ≡ sibAt w caps h → meetsIn w caps start b (left - 1) h′ ≡ metIn w caps start b
       met-more f g h′ e = ap (meetsIn w caps start b (left - 1)) e ∙ (sym (meets-more (left - 1) h f g) ∙ here)
 
+pub not-false : (b : Bool) → not b ≡ false → b ≡ true
+not-false true e = refl
+not-false false e = absurd (clash refl e)
+
 -- from a facet of a cell
-pub met-from : (w : List ℕ) (caps : Caps) (a b f h : ℕ) (r : Bool) → h ≡ halfOf (cut a) (f % 8) → r ≡ metIn w caps h b
-    → metIn w caps (halfOf (cut a) (f % 8)) b ≡ r
-met-from w caps a b f h r e q = sym (q ∙ ap (λ (x : ℕ). metIn w caps x b) e)
+module _ (w : List ℕ) (caps : Caps) (rows : List (List (List ℕ))) (v a f b h : ℕ) (half : h ≡ halfOf (cut a) (f % 8)) (met : Bool)
+    (meets : met ≡ metIn w caps h b) where
+  pub joins-not : not met ≡ true → false ≡ joinsIn w caps rows v a f b
+  unfolding joinsIn
+  joins-not e = rw (← half, ← meets, not-false-true met e)
+
+  pub joins-mark : not met ≡ false → (r : Bool) → r ≡ has v (facetIn w caps rows a f) → r ≡ joinsIn w caps rows v a f b
+  unfolding joinsIn
+  joins-mark e r q = rw (← half, ← meets, not-false met e) q
 
 -- facet by facet
-module _ (w : List ℕ) (caps : Caps) (a b t n : ℕ) (code : t ≡ codeIn w caps a) (count : n ≡ facetCount t) where
+module _ (w : List ℕ) (caps : Caps) (rows : List (List (List ℕ))) (v a b t n : ℕ) (code : t ≡ codeIn w caps a) (count : n ≡ facetCount t) where
   facets : facetCount (codeIn w caps a) ≡ n
   facets = sym (count ∙ ap facetCount code)
 
-  pub linked-found : (f : ℕ) → metIn w caps (halfOf (cut a) (f % 8)) b ≡ true → f < n → true ≡ linkedIn w caps a b
+  pub linked-found : (f : ℕ) → joinsIn w caps rows v a f b ≡ true → f < n → true ≡ linkedIn w caps rows v a b
   unfolding linkedIn
   linked-found f e h = rw facets (sym (below-found n _ f h e))
 
-  pub linked-none : (f : ℕ) → ((k : ℕ) → k < f → metIn w caps (halfOf (cut a) (k % 8)) b ≡ false) → f ≡ n → false ≡ linkedIn w caps a b
+  pub linked-none : (f : ℕ) → ((k : ℕ) → k < f → joinsIn w caps rows v a k b ≡ false) → f ≡ n → false ≡ linkedIn w caps rows v a b
   unfolding linkedIn
   linked-none f before e = rw facets (sym (below-none n _ (rw e at before)))

@@ -201,7 +201,7 @@ module _ (link : ℕ → ℕ → Bool) (n : ℕ) where
       later room = omega (arith, own .size)
 
 -- whether two places are linked, as the code asks it
-pub link-is : (w : List ℕ) (caps : Caps) (cells : List ℕ) (i j a b : ℕ) (r : Bool) → a ≡ getD cells i 0 → b ≡ getD cells j 0
-    → r ≡ linkedIn w caps a b → r ≡ linkIn w caps cells i j
+pub link-is : (w : List ℕ) (caps : Caps) (rows : List (List (List ℕ))) (v : ℕ) (cells : List ℕ) (i j a b : ℕ) (r : Bool) → a ≡ getD cells i 0 → b ≡ getD cells j 0
+    → r ≡ linkedIn w caps rows v a b → r ≡ linkIn w caps rows v cells i j
 unfolding linkIn
-link-is w caps cells i j a b r e f q = rw (← e, ← f) q
+link-is w caps rows v cells i j a b r e f q = rw (← e, ← f) q

@@ -1,6 +1,6 @@
 -- On the picture of a settled state the sibling words lead from a facet of a cell to the cells that share it, and to no other.
 use mathlib.Core.Path.{_≡_, refl, sym, ap, _∙_}
-use mathlib.Core.Bool.{Bool, true}
+use mathlib.Core.Bool.{Bool, true, _&&_}
 use mathlib.Core.List.{List, [], map}
 use Prim.Native.Nat.{ℕ, zero, suc, _+_, _*_, _/_, _%_, _<_, _≤_}
 use native.Mathlib.Decide.{ℕ-discrete}
@@ -8,8 +8,8 @@ use native.Mathlib.Omega.{arith}
 use borrow.Author.Tests.{ltb-true}
 use lib.Dec.{ltb}
 use lib.ListN.{length, getD, length-map, List·getD-map}
-use Rattle.lists.specs.Lists.{any, all, sameSet, steps}
-use Rattle.lists.proofs.Bools.{clash, same-test}
+use Rattle.lists.specs.Lists.{any, all, has, sameSet, steps}
+use Rattle.lists.proofs.Bools.{clash, same-test, and-left, and-right, and-both}
 use Rattle.lists.proofs.Members.{any-at, at-any, all-at, all-get}
 use Rattle.lists.proofs.Select.{select-in, select-out}
 use Rattle.lists.proofs.Order.{select-ascends}
@@ -19,22 +19,24 @@ use Rattle.shapes.specs.Shapes.{Shape, noShape, bar, tri, quad, tetra, shapes, 
 use Rattle.shapes.proofs.Facts.{facts}
 use Rattle.numbers.specs.declared.Caps.{Caps}
 use Rattle.store.specs.Slots.{codeIn}
-use Rattle.map.specs.Cells.{Map, holds, facetsAt, shares}
+use Rattle.map.specs.Cells.{Map, holds, facetsAt}
 use Rattle.map.specs.Siblings.{isHalf, Half, marksOf, siblings, sibling, walk}
 use Rattle.map.specs.Sound.{Sound}
-use Rattle.map.specs.Stars.{holders}
-use Rattle.laws.proofs.Anchors.{half-facet}
+use Rattle.map.specs.Stars.{holders, linked}
+use Rattle.laws.proofs.Anchors.{half-facet, linked-facets, facets-linked}
 use Rattle.laws.proofs.Cycles.{sharers-has, has-sharers, siblings-live, walk-has, walk-not-before, walk-meets}
 use Rattle.laws.proofs.Halves.{half-live}
 use Rattle.picture.specs.State.{State, mapWith}
 use Rattle.picture.specs.Picture.{Pic}
 use Rattle.picture.specs.Ready.{Settled}
-use Rattle.facet.specs.Facet.{matchAt}
+use Rattle.shapes.specs.Table.{table}
+use Rattle.facet.specs.Facet.{matchAt, facetIn}
+use Rattle.facet.proofs.Read.{facet-read}
 use Rattle.sibling.specs.Halves.{halvesOf}
 use Rattle.sibling.proofs.Along.{along}
 use Rattle.laws.proofs.Facets.{facets-count}
 use Rattle.picture.proofs.Record.{code-read, sib-read}
-use Rattle.group.specs.Labels.{sibAt, meetsIn, metIn, linkedIn}
+use Rattle.group.specs.Labels.{sibAt, meetsIn, metIn, joinsIn, linkedIn}
 use Rattle.group.proofs.Meeting.{below-found, below-out, meets-none, meets-back, meets-here, meets-more, meets-start}
 use Rattle.numbers.specs.Sizes.{mostAround}
 use Rattle.shapes.specs.Sizes.{noFacet, mostFacets}
@@ -136,7 +138,7 @@ module _ (w : List ℕ) (caps : Caps) (s : State) (p : Pic w caps s) (t : Settle
         moved zero q = absurd (apart q)
         moved (suc n) q = omega arith
 
-  module _ (a b : ℕ) (ha : a < caps .cells) where
+  module _ (rows : List (List (List ℕ))) (types : rows ≡ table) (v a b : ℕ) (ha : a < caps .cells) where
     count-is : facetCount (codeIn w caps a) ≡ length (facetsAt m a)
     unfolding facetCount mapWith
     count-is = rw (code-read w caps s p a ha) (sym (facets-count (mapWith caps s) a))
@@ -145,30 +147,36 @@ module _ (w : List ℕ) (caps : Caps) (s : State) (p : Pic w caps s) (t : Settle
     unfolding halfOf
     start-is f l = omega (arith, ha, p .cells, half-facet m a f l .3)
 
-    pub linked-read : (a ≡ b → ⊥) → linkedIn w caps a b ≡ shares m a b
-    unfolding linkedIn shares isHalf marksOf
+    facet-is : (f : ℕ) → facetIn w caps rows a f ≡ getD (facetsAt m a) f []
+    unfolding mapWith
+    facet-is f = ap (λ (r : List (List (List ℕ))). facetIn w caps r a f) types ∙ facet-read w caps s p a ha (t .ready .sound .fitting a) f
+
+    pub linked-read : (a ≡ b → ⊥) → linkedIn w caps rows v a b ≡ linked m v a b
+    unfolding linkedIn joinsIn isHalf marksOf
     linked-read apart = same-test _ _ there back
       where
-        there : linkedIn w caps a b ≡ true → shares m a b ≡ true
+        there : linkedIn w caps rows v a b ≡ true → linked m v a b ≡ true
         there e =
-            let r = below-out (facetCount (codeIn w caps a)) (λ f. metIn w caps (halfOf (cut a) (f % 8)) b) e in
+            let r = below-out (facetCount (codeIn w caps a)) (λ f. joinsIn w caps rows v a f b) e in
+            let joins : metIn w caps (halfOf (cut a) (r .0 % 8)) b && has v (facetIn w caps rows a (r .0)) ≡ true = r .2 in
             let less : r .0 < length (facetsAt m a) = omega (arith, r .1, count-is) in
             let half = half-facet m a (r .0) less in
             let x = half-live m (t .ready .sound) (8 * a + r .0) (half .1) in
-            let q = met-there (8 * a + r .0) b x (rw (start-is (r .0) less) at (r .2)) in
+            let q = met-there (8 * a + r .0) b x (rw (start-is (r .0) less) at (and-left (metIn w caps (halfOf (cut a) (r .0 % 8)) b) _ joins)) in
             let place : q .0 % 8 < length (facetsAt m (q .0 / 8)) = ltb-true _ _ (q .2 .facet) in
             let same : sameSet (getD (facetsAt m a) (r .0) []) (getD (facetsAt m (q .0 / 8)) (q .0 % 8) []) ≡ true = rw (half .2) at (q .3) in
-            let met : any (sameSet (getD (facetsAt m a) (r .0) [])) (facetsAt m (q .0 / 8)) ≡ true = at-any _ (facetsAt m (q .0 / 8)) [] (q .0 % 8) place same in
-            at-any _ (facetsAt m a) [] (r .0) less (rw (q .1) at met)
+            let held : has v (getD (facetsAt m a) (r .0) []) ≡ true = rw (facet-is (r .0)) at (and-right (metIn w caps (halfOf (cut a) (r .0 % 8)) b) _ joins) in
+            rw (q .1) at (facets-linked m v a (q .0 / 8) (r .0) (q .0 % 8) less held place same)
 
-        back : shares m a b ≡ true → linkedIn w caps a b ≡ true
+        back : linked m v a b ≡ true → linkedIn w caps rows v a b ≡ true
         back e =
-            let r = any-at _ (facetsAt m a) [] e in
-            let q = any-at _ (facetsAt m b) [] (r .2) in
+            let r = linked-facets m v a b e in
+            let q = r .3 in
             let one = half-facet m a (r .0) (r .1) in
             let other = half-facet m b (q .0) (q .1) in
             let x = half-live m (t .ready .sound) (8 * a + r .0) (one .1) in
             let y = half-live m (t .ready .sound) (8 * b + q .0) (other .1) in
             let met : metIn w caps (8 * a + r .0) b ≡ true =
             there-met (8 * a + r .0) b x (λ z. apart (sym (one .0) ∙ z)) (8 * b + q .0) (other .0) y (rw (one .2, other .2) (q .2)) in
-            below-found _ _ (r .0) (omega (arith, r .1, count-is)) (rw (start-is (r .0) (r .1)) met)
+            below-found _ _ (r .0) (omega (arith, r .1, count-is))
+            (and-both (metIn w caps (halfOf (cut a) (r .0 % 8)) b) (has v (facetIn w caps rows a (r .0))) (rw (start-is (r .0) (r .1)) met) (rw (facet-is (r .0)) (r .2)))

@@ -14,6 +14,7 @@ use Rattle.numbers.specs.Half.{cut, halfOf}
 use Rattle.numbers.specs.declared.Caps.{Caps}
 use Rattle.facet.specs.Facet.{facetIn}
 use Rattle.group.specs.Labels.{sibAt}
+use Rattle.group.proofs.Meeting.{not-false}
 use Rattle.group.specs.Places.{borderIn, wantedIn, chosenIn, seekIn, placeIn}
 
 pub alone-is : (w : List ℕ) (caps : Caps) (c f x h : ℕ) → x ≡ sibAt w caps h → h ≡ halfOf (cut c) (f % 8)
@@ -29,10 +30,6 @@ module _ (w : List ℕ) (caps : Caps) (c f : ℕ) (only : Bool) where
   pub wanted-border : (r : Bool) → not only ≡ false → r ≡ borderIn w caps c f → r ≡ wantedIn w caps c f only
   unfolding wantedIn
   wanted-border r e q = rw e q
-
-not-false : (b : Bool) → not b ≡ false → b ≡ true
-not-false true e = refl
-not-false false e = absurd (clash refl e)
 
 module _ (w : List ℕ) (caps : Caps) (rows : List (List (List ℕ))) (v : ℕ) (cells lab : List ℕ) (i : ℕ) (only : Bool) (x : ℕ) where
   module _ (one other : ℕ) (first-label : one ≡ getD lab (x / 8) 0) (second-label : other ≡ getD lab i 0) where

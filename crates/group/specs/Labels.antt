@@ -8,6 +8,8 @@ use lib.ListN.{getD, length}
 use Rattle.numbers.specs.Half.{cut, halfOf}
 use Rattle.shapes.specs.Shapes.{facetCount}
 use Rattle.numbers.specs.declared.Caps.{Caps}
+use Rattle.lists.specs.Lists.{has}
+use Rattle.facet.specs.Facet.{facetIn}
 use Rattle.store.specs.Fields.{Sib}
 use Rattle.store.specs.Slots.{InCell, read, codeIn}
 use Rattle.numbers.specs.Sizes.{mostAround}
@@ -30,13 +32,17 @@ meetsIn w caps start b (suc k) h = not (eqb h start) && (eqb (h / 8) b || meetsI
 unfoldable pub metIn : List ℕ → Caps → ℕ → ℕ → Bool
 metIn w caps start b = meetsIn w caps start b mostAround (sibAt w caps start)
 
--- cell b is met from a facet of cell a
-unfoldable pub linkedIn : List ℕ → Caps → ℕ → ℕ → Bool
-linkedIn w caps a b = anyBelow (facetCount (codeIn w caps a)) (λ f. metIn w caps (halfOf (cut a) (f % 8)) b)
+-- cell b is met from a facet of cell a that holds v
+unfoldable pub joinsIn : List ℕ → Caps → List (List (List ℕ)) → ℕ → ℕ → ℕ → ℕ → Bool
+joinsIn w caps rows v a f b = metIn w caps (halfOf (cut a) (f % 8)) b && has v (facetIn w caps rows a f)
+
+-- so from one of its facets
+unfoldable pub linkedIn : List ℕ → Caps → List (List (List ℕ)) → ℕ → ℕ → ℕ → Bool
+linkedIn w caps rows v a b = anyBelow (facetCount (codeIn w caps a)) (λ f. joinsIn w caps rows v a f b)
 
 -- so two places of a list of cells are linked
-unfoldable pub linkIn : List ℕ → Caps → List ℕ → ℕ → ℕ → Bool
-linkIn w caps cells i j = linkedIn w caps (getD cells i 0) (getD cells j 0)
+unfoldable pub linkIn : List ℕ → Caps → List (List (List ℕ)) → ℕ → List ℕ → ℕ → ℕ → Bool
+linkIn w caps rows v cells i j = linkedIn w caps rows v (getD cells i 0) (getD cells j 0)
 
 -- each of the first n places has its own number as label
 pub record Numbered (n : ℕ) (l l′ : List ℕ) : Type 0 where

@@ -2,7 +2,7 @@
 //
 // What is here: `anchors_of` lists the anchors of a mark in a dimension, `first_anchor_of` gives the first of them as number + 1.
 // Both are total on any memory. What is proved: on the picture of a settled state each answer is the definition's (specs/Group.antt
-// says what of a state is asked). How: each cell of the star has a label; two cells that share a facet get one label, and the stored
+// says what of a state is asked). How: each cell of the star has a label; two cells that share a facet with the mark get one label, and the stored
 // siblings of the one cell's facets tell it, for they lead to each cell with a facet of the same marks; then the anchor of each
 // label's cells is sought, once. What a caller should know: each pair of cells is looked at once at most; 128 words hold any answer;
 // the table is handed down.
@@ -13,7 +13,7 @@ ghost use Rattle.map.specs.Stars.{anchors};
 ghost use Rattle.picture.specs.State.{next};
 ghost use Rattle.star.specs.Listed.{Gives, Reads};
 ghost use Rattle.group.specs.Group.{Around};
-ghost use Rattle.group.specs.Labels.{metIn, linkedIn, linkIn, Numbered, Relabelled, Pairs, Merged, Labelled};
+ghost use Rattle.group.specs.Labels.{metIn, joinsIn, linkedIn, linkIn, Numbered, Relabelled, Pairs, Merged, Labelled};
 ghost use Rattle.group.specs.Places.{borderIn, wantedIn, chosenIn, seekIn, placeIn, Recalled, anchorsIn};
 ghost use Rattle.numbers.specs.Sizes.{mostAround};
 use facet::facet_has;
@@ -51,14 +51,24 @@ fn meets(w: &[u32], caps: Caps, start: Half, b: Cell) -> bool
     false
 }
 
-// Whether two cells share a facet, by the sibling words.
-fn linked(w: &[u32], caps: Caps, a: Cell, b: Cell) -> bool
-    ensures { λ r. ⌜ r ≡ linkedIn (now (w .entry)) caps (a .0) (b .0) ⌝ }
+// Whether a facet of cell a is one of cell b too, and holds v.
+fn joins(w: &[u32], caps: Caps, rows: &FacetTable, v: Mark, a: Cell, f: u32, b: Cell) -> bool
+    ensures { λ r. ⌜ r ≡ joinsIn (now (w .entry)) caps (now (rows .entry)) (v .0) (a .0) f (b .0) ⌝ }
+{
+    if !meets(w, caps, half_of(a, f), b) {
+        return false;
+    }
+    facet_has(w, caps, rows, a, f, v)
+}
+
+// Whether two cells share a facet that holds v, by the sibling words.
+fn linked(w: &[u32], caps: Caps, rows: &FacetTable, v: Mark, a: Cell, b: Cell) -> bool
+    ensures { λ r. ⌜ r ≡ linkedIn (now (w .entry)) caps (now (rows .entry)) (v .0) (a .0) (b .0) ⌝ }
 {
     let n = facet_count(code_of(w, caps, a));
     let mut f: u32 = 0;
     while f < n {
-        if meets(w, caps, half_of(a, f), b) {
+        if joins(w, caps, rows, v, a, f, b) {
             return true;
         }
         f += 1;
@@ -90,39 +100,58 @@ fn relabel(lab: &mut [u32], n: u32, old: u32, new: u32)
     }
 }
 
-// Two places whose cells share a facet get one label.
-fn merge_pair(w: &[u32], caps: Caps, cells: &[u32], n: u32, a: usize, b: usize, lab: &mut [u32])
-    ensures { λ _. ⌜ (b < a → a < n → Merged (linkIn (now (w .entry)) caps (now (cells .entry))) n (Pairs a b (b + 1)) (now (lab .entry)) (now (lab .exit))) ⌝ }
+// Two places whose cells are linked get one label.
+fn merge_pair(
+    w: &[u32],
+    caps: Caps,
+    rows: &FacetTable,
+    v: Mark,
+    cells: &[u32],
+    n: u32,
+    a: usize,
+    b: usize,
+    lab: &mut [u32],
+)
+    ensures { λ _. ⌜ (b < a → a < n → Merged (linkIn (now (w .entry)) caps (now (rows .entry)) (v .0) (now (cells .entry))) n (Pairs a b (b + 1)) (now (lab .entry)) (now (lab .exit))) ⌝ }
 {
     let one = word(lab, a);
     let other = word(lab, b);
     if one == other {
         return;
     }
-    if linked(w, caps, Cell(word(cells, a)), Cell(word(cells, b))) {
+    if linked(w, caps, rows, v, Cell(word(cells, a)), Cell(word(cells, b))) {
         relabel(lab, n, other, one);
     }
 }
 
 // So for a place and each place before it, the nearest first: neighbours often have near numbers, and then one label soon.
-fn merge_row(w: &[u32], caps: Caps, cells: &[u32], n: u32, a: u32, lab: &mut [u32])
-    ensures { λ _. ⌜ (a < n → Merged (linkIn (now (w .entry)) caps (now (cells .entry))) n (Pairs a 0 a) (now (lab .entry)) (now (lab .exit))) ⌝ }
+fn merge_row(
+    w: &[u32],
+    caps: Caps,
+    rows: &FacetTable,
+    v: Mark,
+    cells: &[u32],
+    n: u32,
+    a: u32,
+    lab: &mut [u32],
+)
+    ensures { λ _. ⌜ (a < n → Merged (linkIn (now (w .entry)) caps (now (rows .entry)) (v .0) (now (cells .entry))) n (Pairs a 0 a) (now (lab .entry)) (now (lab .exit))) ⌝ }
 {
     let mut b: u32 = a;
     while 0 < b {
         b -= 1;
-        merge_pair(w, caps, cells, n, a as usize, b as usize, lab);
+        merge_pair(w, caps, rows, v, cells, n, a as usize, b as usize, lab);
     }
 }
 
 // The labels of the first n cells: one for each group.
-fn labels(w: &[u32], caps: Caps, cells: &[u32], n: u32, lab: &mut [u32])
-    ensures { λ _. ⌜ Labelled (linkIn (now (w .entry)) caps (now (cells .entry))) n (now (lab .entry)) (now (lab .exit)) ⌝ }
+fn labels(w: &[u32], caps: Caps, rows: &FacetTable, v: Mark, cells: &[u32], n: u32, lab: &mut [u32])
+    ensures { λ _. ⌜ Labelled (linkIn (now (w .entry)) caps (now (rows .entry)) (v .0) (now (cells .entry))) n (now (lab .entry)) (now (lab .exit)) ⌝ }
 {
     number(lab, n);
     let mut a: u32 = 0;
     while a < n {
-        merge_row(w, caps, cells, n, a, lab);
+        merge_row(w, caps, rows, v, cells, n, a, lab);
         a += 1;
     }
 }
@@ -283,7 +312,7 @@ pub fn anchors_of(w: &[u32], caps: Caps, rows: &FacetTable, d: u32, v: Mark, out
         return 0;
     }
     let mut lab = [0u32; MOST_AROUND as usize];
-    labels(w, caps, &cells, n, &mut lab);
+    labels(w, caps, rows, v, &cells, n, &mut lab);
     list(w, caps, rows, v, &cells, &lab, n, 8 * n, out)
 }
 

@@ -8,16 +8,16 @@ use native.Mathlib.Omega.{arith}
 use borrow.Author.Tests.{eq-eqb, eqb-true, lt-ltb}
 use lib.Dec.{eqb}
 use lib.ListN.{length, getD, length-map, List·getD-map}
-use Rattle.lists.specs.Lists.{has, keep, first}
+use Rattle.lists.specs.Lists.{has, sameSet, keep, first}
 use Rattle.lists.specs.Ascending.{Ascending}
 use Rattle.lists.proofs.Bools.{clash, and-left, and-right, and-both}
 use Rattle.lists.proofs.Members.{any-at, at-any, has-at, first-has}
-use Rattle.lists.proofs.Sets.{same-sym}
+use Rattle.lists.proofs.Sets.{same-sym, same-has}
 use Rattle.lists.proofs.Select.{select-in, select-out}
 use Rattle.lists.proofs.Order.{select-ascends, keep-ascends, first-least}
 use Rattle.shapes.specs.Shapes.{shape}
 use Rattle.shapes.proofs.Facts.{facts}
-use Rattle.map.specs.Cells.{Map, dimensionAt, holds, facetsAt, shares}
+use Rattle.map.specs.Cells.{Map, dimensionAt, holds, facetsAt}
 use Rattle.map.specs.Sound.{Fitting}
 use Rattle.map.specs.Siblings.{isHalf, marksOf, border}
 use Rattle.map.specs.Stars.{star, linked, group, halvesAt, anchor, anchors}
@@ -26,18 +26,26 @@ use Rattle.laws.proofs.Groups.{group-self, group-inside, one-group}
 use Rattle.shapes.specs.Sizes.{noFacet}
 
 module _ (m : Map) where
-  -- of two cells that share a facet each shares it with the other
-  pub shares-back : (a b : ℕ) → shares m a b ≡ true → shares m b a ≡ true
-  unfolding shares
-  shares-back a b e =
-      let r = any-at _ (facetsAt m a) [] e in
-      let q = any-at _ (facetsAt m b) [] (r .2) in
-      at-any _ (facetsAt m b) [] (q .0) (q .1) (at-any _ (facetsAt m a) [] (r .0) (r .1) (same-sym _ _ (q .2)))
-
-  -- and two linked cells of a star are linked both ways
-  pub linked-back : (v a b : ℕ) → linked m v a b ≡ true → linked m v b a ≡ true
+  -- linked cells: a facet of each, with one set of marks, that holds the mark
+  pub linked-facets : (v a b : ℕ) → linked m v a b ≡ true
+      → (f : ℕ) × (f < length (facetsAt m a)) × (has v (getD (facetsAt m a) f []) ≡ true)
+      × ((g : ℕ) × (g < length (facetsAt m b)) × (sameSet (getD (facetsAt m a) f []) (getD (facetsAt m b) g []) ≡ true))
   unfolding linked
-  linked-back v a b e = shares-back a b e
+  linked-facets v a b e =
+      let r = any-at _ (facetsAt m a) [] e in
+      (r .0, r .1, and-left (has v (getD (facetsAt m a) (r .0) [])) _ (r .2), any-at _ (facetsAt m b) [] (and-right (has v (getD (facetsAt m a) (r .0) [])) _ (r .2)))
+
+  pub facets-linked : (v a b f g : ℕ) → f < length (facetsAt m a) → has v (getD (facetsAt m a) f []) ≡ true → g < length (facetsAt m b)
+      → sameSet (getD (facetsAt m a) f []) (getD (facetsAt m b) g []) ≡ true → linked m v a b ≡ true
+  unfolding linked
+  facets-linked v a b f g l h k same = at-any _ (facetsAt m a) [] f l (and-both _ _ h (at-any _ (facetsAt m b) [] g k same))
+
+  -- and so both ways
+  pub linked-back : (v a b : ℕ) → linked m v a b ≡ true → linked m v b a ≡ true
+  linked-back v a b e =
+      let r = linked-facets v a b e in
+      let q = r .3 in
+      facets-linked v b a (q .0) (r .0) (q .1) (sym (same-has _ _ (q .2) v) ∙ r .2) (r .1) (same-sym _ _ (q .2))
 
   -- each facet of a cell has its half-facet, with the marks of the facet
   pub half-facet : (c f : ℕ) → f < length (facetsAt m c)

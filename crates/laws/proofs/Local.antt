@@ -16,7 +16,7 @@ use Rattle.lists.proofs.Keep.{keep-out}
 use Rattle.numbers.specs.declared.Caps.{Caps}
 use Rattle.shapes.specs.Shapes.{shape}
 use Rattle.shapes.proofs.Facts.{facts}
-use Rattle.map.specs.Cells.{Body, Map, noCell, dimensionAt, holds, facetsAt, shares}
+use Rattle.map.specs.Cells.{Body, Map, noCell, dimensionAt, holds, facetsAt}
 use Rattle.map.specs.Siblings.{isHalf, marksOf, sharers, siblings, sibling, border}
 use Rattle.map.specs.Groups.{grow, grown, groupOf}
 use Rattle.map.specs.Stars.{holders, star, linked, group, halvesAt, anchor, anchors}
@@ -145,10 +145,10 @@ module _ (m m′ : Map) (c : ℕ) (a : Apart m m′ c) where
         → (sibling m′ h ≡ sibling m h) × (border m′ h ≡ border m h)
     sibling-other e e′ = same-siblings h (siblings-other e e′)
 
-  -- two other cells share a facet as before
-  pub shares-other : (x y : ℕ) → (x ≡ c → ⊥) → (y ≡ c → ⊥) → shares m′ x y ≡ shares m x y
-  unfolding shares facetsAt
-  shares-other x y n n′ = rw (a .other x n, a .other y n′)
+  -- two other cells are linked as before
+  pub linked-other : (v x y : ℕ) → (x ≡ c → ⊥) → (y ≡ c → ⊥) → linked m′ v x y ≡ linked m v x y
+  unfolding linked facetsAt
+  linked-other v x y n n′ = rw (a .other x n, a .other y n′)
 
   module _ (v : ℕ) (free : Free m m′ c v) where
     -- the same cells hold the mark
@@ -195,11 +195,11 @@ module _ (m m′ : Map) (c : ℕ) (a : Apart m m′ c) where
 
     -- and its cells are in the same groups
     pub group-free : (d x : ℕ) → group m′ d v x ≡ group m d v x
-    unfolding group linked
+    unfolding group
     group-free d x =
         rw (star-free d)
         (groups-same _ _ (star m d v)
-        (λ x y h i. shares-other x y (holds-other x (star-has m d v x h .2)) (holds-other y (star-has m d v y i .2))) x)
+        (λ x y h i. linked-other v x y (holds-other x (star-has m d v x h .2)) (holds-other y (star-has m d v y i .2))) x)
 
     -- the half-facets at the mark are the same
     pub halves-free : (g : List ℕ) → halvesAt m′ v g ≡ halvesAt m v g

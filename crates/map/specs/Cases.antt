@@ -57,6 +57,9 @@ bar c a b = Insert c (bodyOf 1 (a ∷ b ∷ []))
 unfoldable pub tri : ℕ → ℕ → ℕ → ℕ → Edit
 tri c a b d = Insert c (bodyOf 2 (a ∷ b ∷ d ∷ []))
 
+unfoldable pub quad : ℕ → ℕ → ℕ → ℕ → ℕ → Edit
+quad c a b d e = Insert c (bodyOf 3 (a ∷ b ∷ d ∷ e ∷ []))
+
 unfoldable pub tetra : ℕ → ℕ → ℕ → ℕ → ℕ → Edit
 tetra c a b d e = Insert c (bodyOf 4 (a ∷ b ∷ d ∷ e ∷ []))
 
@@ -86,6 +89,9 @@ p9 = tri 0 0 1 2 ∷ tri 1 0 1 3 ∷ tri 2 0 1 4 ∷ Remove 1 ∷ []
 
 unfoldable pub p12 : List Edit
 p12 = tri 0 0 1 2 ∷ tetra 1 0 1 2 3 ∷ []
+
+unfoldable pub twoQuads : List Edit
+twoQuads = quad 0 0 1 2 3 ∷ quad 1 0 4 1 2 ∷ []
 
 unfoldable pub rows : List CaseRow
 rows =
@@ -126,6 +132,10 @@ rows =
     ∷ ([] asked Try (tri 0 0 1 1) gives 9 ∷ [])
     -- P12 P2 with tetrahedron 1 (0,1,2,3): no siblings across
     ∷ (p12 asked Borders gives 0 ∷ 0 ∷ 1 ∷ 2 ∷ 8 ∷ 9 ∷ 10 ∷ 11 ∷ [])
+    -- request 3: quads 0 (0,1,2,3), 1 (0,4,1,2) share the edge of marks 1 and 2: "mark 0 then has two anchors", and mark 1 has one
+    ∷ (twoQuads asked Sibling 0 1 gives 0 ∷ 10 ∷ [])
+    ∷ (twoQuads asked Anchors 2 0 gives 0 ∷ 0 ∷ 8 ∷ [])
+    ∷ (twoQuads asked Anchors 2 1 gives 0 ∷ 0 ∷ [])
     ∷ []
 
 -- a row holds: the mesh of its edits answers as it says

@@ -3,8 +3,8 @@ use mathlib.Core.Bool.{Bool, _&&_}
 use mathlib.Core.List.{List}
 use Prim.Native.Nat.{ℕ, _*_, _/_}
 use lib.Dec.{eqb}
-use Rattle.lists.specs.Lists.{has, select, keep, first}
-use Rattle.map.specs.Cells.{Map, dimensionAt, holds, shares}
+use Rattle.lists.specs.Lists.{any, has, sameSet, select, keep, first}
+use Rattle.map.specs.Cells.{Map, dimensionAt, holds, facetsAt}
 use Rattle.map.specs.Siblings.{isHalf, marksOf, border}
 use Rattle.map.specs.Groups.{groupOf}
 
@@ -16,9 +16,9 @@ holders m v = select (holds m v) (m .caps .cells)
 unfoldable pub star : Map → ℕ → ℕ → List ℕ
 star m d v = select (λ c. eqb (dimensionAt m c) d && holds m v c) (m .caps .cells)
 
--- "two cells of a star are linked if they share a facet"
+-- "Link two cells of a star only if they share a facet that holds the mark."
 unfoldable pub linked : Map → ℕ → ℕ → ℕ → Bool
-linked m v a b = shares m a b
+linked m v a b = any (λ (f : List ℕ). has v f && any (sameSet f) (facetsAt m b)) (facetsAt m a)
 
 -- the group of a cell in a star
 unfoldable pub group : Map → ℕ → ℕ → ℕ → List ℕ

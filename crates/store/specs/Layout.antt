@@ -4,7 +4,7 @@ unfoldable pub use Rattle.numbers.specs.Room.{room}
 
 -- the first word of a mesh
 unfoldable pub magic : ℕ
-magic = 1296780361
+magic = 1296780362
 
 -- the words of the head, of a mark's record, of each part of a cell's
 abbrev pub headWords : ℕ

@@ -31,7 +31,7 @@ use words::put;
 use words::word;
 
 // The first word of a mesh.
-pub const MAGIC: u32 = 1296780361;
+pub const MAGIC: u32 = 1296780362;
 
 // The words of the head, of a mark's record, of each part of a cell's, of both.
 pub const HEAD: usize = 16;

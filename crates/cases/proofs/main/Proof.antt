@@ -8,7 +8,7 @@ abbrev Inv-loop : tie.InvT-loop
 Inv-loop p₀ p = Unit {0}
 
 abbrev μ-loop : tie.MeasureT-loop
-μ-loop p₀ p = 18 - p
+μ-loop p₀ p = 20 - p
 
 pub main-spec : {M : Type 1} → statement M
 main-spec =

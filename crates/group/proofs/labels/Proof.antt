@@ -8,10 +8,10 @@ use Rattle.group.proofs.labels.Statement.{statement}
 use Rattle.group.proofs.labels.Tie as tie
 
 abbrev Inv-loop : tie.InvT-loop
-Inv-loop w caps cells n lab₀ a₀ lab a = (a ≤ n) × Merged (linkIn w caps cells) n (Rows a) lab₀ lab
+Inv-loop w caps rows v cells n lab₀ a₀ lab a = (a ≤ n) × Merged (linkIn w caps rows (v .0) cells) n (Rows a) lab₀ lab
 
 abbrev μ-loop : tie.MeasureT-loop
-μ-loop w caps cells n lab₀ a₀ lab a = n - a
+μ-loop w caps rows v cells n lab₀ a₀ lab a = n - a
 
 loop-holds : tie.Need-loop-holds Inv-loop μ-loop
 loop-holds c = (omega arith, rows-none _ _ _)

@@ -21,7 +21,7 @@ returns-2 c order below =
     let at-word3 = at-word4 .before in
     let at-word2 = at-word3 .before .before in
     let at-word = at-word2 .before .before in
-    let joined = link-is _ _ _ _ _ _ _ _ (at-word3 .word3 .ensures) (at-word4 .word4 .ensures) (at-linked .linked .ensures) in
+    let joined = link-is _ _ _ _ _ _ _ _ _ _ (at-word3 .word3 .ensures) (at-word4 .word4 .ensures) (at-linked .linked .ensures) in
     merge-join _ _ _ _ _ _ _ _ (at-word .word .ensures) (at-word2 .word2 .ensures) order below (at-relabel .relabel .ensures)
     (sym joined ∙ at-if2 .if2 .taken)
 
@@ -30,7 +30,7 @@ returns-3 c order below =
     let at-linked = c .before in
     let at-word4 = at-linked .before in
     let at-word3 = at-word4 .before in
-    let joined = link-is _ _ _ _ _ _ _ _ (at-word3 .word3 .ensures) (at-word4 .word4 .ensures) (at-linked .linked .ensures) in
+    let joined = link-is _ _ _ _ _ _ _ _ _ _ (at-word3 .word3 .ensures) (at-word4 .word4 .ensures) (at-linked .linked .ensures) in
     merge-skip _ _ _ _ _ (λ e. absurd (clash (joined ∙ e) (c .if2 .left)))
 
 pub merge-pair-spec : {M : Type 1} → statement M

@@ -10,10 +10,10 @@ use Rattle.group.proofs.merge_row.Statement.{statement}
 use Rattle.group.proofs.merge_row.Tie as tie
 
 abbrev Inv-loop : tie.InvT-loop
-Inv-loop w caps cells n a lab₀ b₀ lab b = (b ≤ a) × (length lab ≡ length lab₀) × (a < n → Merged (linkIn w caps cells) n (Pairs a b a) lab₀ lab)
+Inv-loop w caps rows v cells n a lab₀ b₀ lab b = (b ≤ a) × (length lab ≡ length lab₀) × (a < n → Merged (linkIn w caps rows (v .0) cells) n (Pairs a b a) lab₀ lab)
 
 abbrev μ-loop : tie.MeasureT-loop
-μ-loop w caps cells n a lab₀ b₀ lab b = b
+μ-loop w caps rows v cells n a lab₀ b₀ lab b = b
 
 loop-holds : tie.Need-loop-holds Inv-loop μ-loop
 loop-holds c = (omega arith, refl, λ below. row-none _ _ _ _)
