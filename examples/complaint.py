@@ -8,7 +8,7 @@ LIBRARY is the proved library as a shared library, as README.md makes it.
 import ctypes
 import sys
 
-BAR, TRIANGLE, QUAD, TETRAHEDRON = 1, 2, 3, 4
+BAR, TRIANGLE, QUAD, TETRAHEDRON, PYRAMID, WEDGE, BRICK = 1, 2, 3, 4, 5, 6, 7
 LONGEST_LIST = 128
 
 

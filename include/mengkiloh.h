@@ -51,10 +51,13 @@ enum mk_refusal {
 
 /* The types: code, dimension, marks, facets, and the facets by their corner places. */
 enum mk_code {
-    MK_BAR_2 = 1,  /* 1, 2, 2: (0) (1) */
-    MK_TRI_3 = 2,  /* 2, 3, 3: (0,1) (1,2) (2,0) */
-    MK_QUAD_4 = 3, /* 2, 4, 4: (0,1) (1,2) (2,3) (3,0) */
-    MK_TETRA_4 = 4 /* 3, 4, 4: (0,2,1) (0,1,3) (1,2,3) (2,0,3) */
+    MK_BAR_2 = 1,   /* 1, 2, 2: (0) (1) */
+    MK_TRI_3 = 2,   /* 2, 3, 3: (0,1) (1,2) (2,0) */
+    MK_QUAD_4 = 3,  /* 2, 4, 4: (0,1) (1,2) (2,3) (3,0) */
+    MK_TETRA_4 = 4, /* 3, 4, 4: (0,2,1) (0,1,3) (1,2,3) (2,0,3) */
+    MK_PYRA_5 = 5,  /* 3, 5, 5: (0,3,2,1) (0,1,4) (1,2,4) (2,3,4) (3,0,4) */
+    MK_PENTA_6 = 6, /* 3, 6, 5: (0,1,4,3) (1,2,5,4) (2,0,3,5) (0,2,1) (3,4,5) */
+    MK_HEXA_8 = 7   /* 3, 8, 6: (0,3,2,1) (0,1,5,4) (1,2,6,5) (2,3,7,6) (0,4,7,3) (4,5,6,7) */
 };
 
 /* The words that a mesh of these capacities takes, each capacity 0 to 65,535. */
@@ -111,7 +114,7 @@ uint8_t mk_sibling(const uint32_t *mesh, size_t words, uint32_t cell, uint32_t f
 /*
  * Lists. The list is written to the first places of out, and its length to count; the other places of
  * out stay as they were. Where out has less room than the list is long, the call is refused with 12,
- * after its other checks, and nothing is written. 128 places hold any cycle, star or anchors, 512 any
+ * after its other checks, and nothing is written. 128 places hold any cycle, star or anchors, 768 any
  * neighbours, and as many as there are cells any list of mk_cells.
  */
 
@@ -155,7 +158,7 @@ uint8_t mk_neighbours(const uint32_t *mesh, size_t words, uint32_t cell, uint32_
                       uint32_t *count);
 
 /*
- * Lookup: found is 1 and half the smallest half-facet with this set of 1 to 3 marks, whatever their
+ * Lookup: found is 1 and half the smallest half-facet with this set of 1 to 4 marks, whatever their
  * order, or found is 0 and half stays as it was, where there is none. Refused with 14, 7, 8, 9.
  */
 uint8_t mk_lookup(const uint32_t *mesh, size_t words, const uint32_t *set, size_t n, uint32_t *found,

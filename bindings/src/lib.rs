@@ -1,9 +1,9 @@
 //! The complaint matcher's map for Rust.
 //!
-//! A [`Mesh`] holds survey marks joined by bars, triangles, quads and
-//! tetrahedra in words that you own or lend. A complaint names a mark; the
-//! [star](Mesh::star) of the mark lists every cell around it: none missing,
-//! none extra.
+//! A [`Mesh`] holds survey marks joined by bars, triangles, quads, tetrahedra,
+//! pyramids, wedges and bricks in words that you own or lend. A complaint names
+//! a mark; the [star](Mesh::star) of the mark lists every cell around it: none
+//! missing, none extra.
 //!
 //! ```
 //! use mengkiloh::{Cell, Mark, Mesh, Type};
@@ -59,8 +59,8 @@ const MOST_CAPACITY: u32 = 65_535;
 /// cycle are longer.
 const MOST_AROUND: usize = 128;
 
-/// A cell has at most so many neighbours: 127 across each of 4 facets.
-const MOST_NEIGHBOURS: usize = 4 * (MOST_AROUND - 1);
+/// A cell has at most so many neighbours: 127 across each of 6 facets.
+const MOST_NEIGHBOURS: usize = 6 * (MOST_AROUND - 1);
 
 /// The words that a mesh of these capacities needs.
 pub const fn room(marks: u32, cells: u32) -> usize {
@@ -74,6 +74,9 @@ pub enum Type {
     Triangle = 2,
     Quad = 3,
     Tetrahedron = 4,
+    Pyramid = 5,
+    Wedge = 6,
+    Brick = 7,
 }
 
 impl From<Type> for u32 {
@@ -92,6 +95,9 @@ impl TryFrom<u32> for Type {
             2 => Ok(Type::Triangle),
             3 => Ok(Type::Quad),
             4 => Ok(Type::Tetrahedron),
+            5 => Ok(Type::Pyramid),
+            6 => Ok(Type::Wedge),
+            7 => Ok(Type::Brick),
             _ => Err(code),
         }
     }
@@ -286,7 +292,7 @@ impl<W: AsRef<[u32]>> Mesh<W> {
         Ok((found == 1).then_some(Half(half)))
     }
 
-    /// The smallest half-facet with this set of 1 to 3 marks, if there is one.
+    /// The smallest half-facet with this set of 1 to 4 marks, if there is one.
     pub fn lookup(&self, set: &[Mark]) -> Result<Option<Half>, Refusal> {
         let set = numbers::words(set);
         let mut half = 0;

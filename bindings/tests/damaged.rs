@@ -6,10 +6,12 @@
 
 mod common;
 
-use common::{plain, told, Chance, Number, Question, SENTINEL};
+use common::{marks, plain, told, Chance, Number, Question, SENTINEL};
 use mengkiloh::{room, Cell, Mark, Mesh, Records, Refusal};
+use second::shapes::type_with_code;
+use streams::lattice;
 
-const MARKS: u32 = 7;
+const MARKS: u32 = 9;
 const CELLS: u32 = 10;
 const PAD: usize = 24;
 
@@ -60,10 +62,18 @@ fn edit<W: AsMut<[u32]>>(chance: &mut Chance, mesh: &mut Mesh<W>) -> bool {
     if chance.below(4) == 0 {
         return mesh.remove(cell).is_ok();
     }
-    let code = 1 + chance.below(4);
-    let count = [0, 2, 3, 4, 4][code as usize];
-    let marks: Vec<Mark> = (0..count).map(|_| Mark(chance.below(MARKS))).collect();
-    mesh.insert(cell, code, &marks).is_ok()
+    if chance.one_in(2) {
+        let (code, drawn) = lattice::draw(chance, lattice::side(MARKS));
+        return mesh.insert(cell, code, &marks(&drawn)).is_ok();
+    }
+    let code = 1 + chance.below(7);
+    let count = type_with_code(code).map_or(0, |row| row.marks);
+    let mut drawn: Vec<u32> = (0..MARKS).collect();
+    chance.shuffle(&mut drawn);
+    if chance.one_in(8) {
+        drawn[0] = drawn[1];
+    }
+    mesh.insert(cell, code, &marks(&drawn[..count])).is_ok()
 }
 
 /// Whether anything was changed.
@@ -172,9 +182,9 @@ fn lists_leave_the_rest(chance: &mut Chance, words: &[u32]) {
     match chance.below(5) {
         0 => leaves_the_rest(room, |out| mesh.star_into(dimension, mark, out)),
         1 => leaves_the_rest(room, |out| mesh.anchors_into(dimension, mark, out)),
-        2 => leaves_the_rest(room, |out| mesh.cycle_into(cell, chance.below(4), out)),
+        2 => leaves_the_rest(room, |out| mesh.cycle_into(cell, chance.below(6), out)),
         3 => leaves_the_rest(room, |out| mesh.neighbours_into(cell, out)),
-        _ => leaves_the_rest(room, |out| mesh.cells_into(1 + chance.below(4), out)),
+        _ => leaves_the_rest(room, |out| mesh.cells_into(1 + chance.below(7), out)),
     }
 }
 
@@ -192,7 +202,7 @@ fn draw(chance: &mut Chance) -> Question {
 /// Each query with each argument, one past its range too.
 fn every_question() -> impl Iterator<Item = Question> {
     let cells = (0..=CELLS).flat_map(|cell| {
-        let halves = (0..5).flat_map(move |facet| {
+        let halves = (0..7).flat_map(move |facet| {
             [
                 Question::Sibling(cell, facet),
                 Question::Border(cell, facet),
@@ -205,7 +215,7 @@ fn every_question() -> impl Iterator<Item = Question> {
             Question::Neighbours(cell),
         ])
     });
-    let marks = (0..=MARKS).flat_map(|mark| {
+    let at_marks = (0..=MARKS).flat_map(|mark| {
         (0..5).flat_map(move |dimension| {
             [
                 Question::Star(dimension, mark),
@@ -214,15 +224,18 @@ fn every_question() -> impl Iterator<Item = Question> {
             ]
         })
     });
-    let types = (0..6).flat_map(|code| [Question::Cells(code), Question::Count(code)]);
+    let types = (0..9).flat_map(|code| [Question::Cells(code), Question::Count(code)]);
     let sets = (0..=MARKS).flat_map(|a| {
         let pairs = (0..MARKS).flat_map(move |b| {
-            let triples = (0..MARKS).map(move |c| Question::Lookup(vec![a, b, c]));
+            let triples = (b..MARKS).flat_map(move |c| {
+                let fours = (c + 1..MARKS).map(move |d| Question::Lookup(vec![a, b, c, d]));
+                fours.chain([Question::Lookup(vec![a, b, c])])
+            });
             triples.chain([Question::Lookup(vec![a, b])])
         });
         pairs.chain([Question::Lookup(vec![a])])
     });
-    cells.chain(marks).chain(types).chain(sets)
+    cells.chain(at_marks).chain(types).chain(sets)
 }
 
 fn agrees(words: &[u32], questions: impl Iterator<Item = Question>) {

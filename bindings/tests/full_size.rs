@@ -132,6 +132,52 @@ fn a_full_mesh_is_built_and_whole() {
     assert!(words[exact..].iter().all(|&word| word == SENTINEL));
 }
 
+/// A chain of bricks: cell c on the marks c to c + 7, so that each mark stands
+/// in eight of them.
+fn bricks(cells: u32, marks: u32) -> Records {
+    let mut records = Records::new();
+    for cell in 0..cells {
+        let corners = [0, 1, 2, 3, 4, 5, 6, 7].map(|step| Mark((cell + step) % marks));
+        records.add(Cell(cell), Type::Brick, &corners);
+    }
+    records
+}
+
+#[test]
+fn a_full_mesh_of_bricks_is_built_whole_and_emptied() {
+    let mut words = vec![SENTINEL; room(65_535, 65_535) + 4];
+    let exact = room(65_535, 65_535);
+    let mut map = Mesh::over(&mut words[..exact]);
+    assert_eq!(map.build(65_535, 65_535, &bricks(65_535, 65_535)), Ok(()));
+    assert!(map.whole());
+    assert_eq!(map.count(Type::Brick), Ok(65_535));
+    let around = map.star(3, Mark(40_000));
+    assert_eq!(around, Ok((39_993..=40_000).map(Cell).collect()));
+    let near = map.neighbours(Cell(30_000));
+    let due = [29_996, 29_998, 29_999, 30_001, 30_002, 30_004];
+    assert_eq!(near, Ok(due.map(Cell).to_vec()));
+    // the marks 30,001, 30,002, 30,005 and 30,006 are a face of three bricks
+    let cycle = [(30_000, 2), (30_001, 1), (29_999, 3)].map(|(c, f)| Half::of(Cell(c), f));
+    assert_eq!(map.cycle(Cell(30_000), 2), Ok(cycle.to_vec()));
+    let face = [30_006, 30_002, 30_001, 30_005].map(Mark);
+    assert_eq!(map.lookup(&face), Ok(Some(cycle[2])));
+    let marks: Vec<Mark> = (30_000..30_008).map(Mark).collect();
+    assert_eq!(map.marks_of(Cell(30_000)), Ok(&marks[..]));
+    let full = map.words().to_vec();
+    assert_eq!(map.remove(Cell(30_000)), Ok(()));
+    assert!(map.whole());
+    assert_eq!(map.lookup(&face), Ok(Some(cycle[2])));
+    assert_eq!(map.insert(Cell(30_000), Type::Brick, &marks), Ok(()));
+    assert_eq!(map.words(), full);
+    for cell in (0..65_535).map(Cell) {
+        assert_eq!(map.remove(cell), Ok(()));
+    }
+    assert!(map.whole());
+    let empty = Mesh::with_room(65_535, 65_535).expect("a mesh of its own");
+    assert_eq!(map.words(), empty.words());
+    assert!(words[exact..].iter().all(|&word| word == SENTINEL));
+}
+
 #[test]
 fn a_build_refused_at_a_record_leaves_no_cell() {
     let mut records = strip(100, 300);

@@ -5,7 +5,9 @@ mod common;
 use common::{marks, ours, records, theirs, Chance, Question, SENTINEL};
 use mengkiloh::{room, Cell, Mesh};
 use second::map::LiveCell;
+use second::shapes::type_with_code;
 use second::Memory;
+use streams::lattice;
 
 /// Sentinels before and behind the mesh.
 const PAD: usize = 64;
@@ -23,7 +25,7 @@ struct Size {
 fn at_50_cells() {
     for seed in 0..40 {
         let size = Size {
-            marks: 24,
+            marks: 30,
             cells: 50,
             pool: 8 + seed as u32 % 16,
             edits: 300,
@@ -99,15 +101,10 @@ fn one_edit(chance: &mut Chance, size: &Size, memory: &mut [u32], second: &mut M
         let answer = ours(mesh.remove(Cell(cell)), |()| vec![]);
         (answer, expected, touched)
     } else {
-        let code = match chance.below(40) {
-            0 => chance.below(7),
-            _ => 1 + chance.below(4),
+        let (code, drawn) = match chance.below(2) {
+            0 => lattice::draw(chance, lattice::side(size.marks)),
+            _ => draw_cell(chance, size),
         };
-        let count = match chance.below(40) {
-            0 => chance.below(6),
-            _ => [0, 2, 3, 4, 4, 3, 3][code as usize],
-        };
-        let drawn: Vec<u32> = (0..count).map(|_| draw_mark(chance, size)).collect();
         let expected = theirs(second.insert(cell, code, &drawn), |()| vec![]);
         let answer = mesh.insert(Cell(cell), code, &marks(&drawn));
         (ours(answer, |()| vec![]), expected, drawn)
@@ -128,6 +125,27 @@ fn one_edit(chance: &mut Chance, size: &Size, memory: &mut [u32], second: &mut M
     }
 }
 
+/// A type's code, now and then none, and marks, now and then too few, too many
+/// or one of them twice.
+fn draw_cell(chance: &mut Chance, size: &Size) -> (u32, Vec<u32>) {
+    let code = match chance.below(40) {
+        0 => chance.below(10),
+        _ => 1 + chance.below(7),
+    };
+    let count = match chance.below(40) {
+        0 => chance.below(10) as usize,
+        _ => type_with_code(code).map_or(3, |row| row.marks),
+    };
+    let mut drawn = Vec::new();
+    while drawn.len() < count {
+        let mark = draw_mark(chance, size);
+        if !drawn.contains(&mark) || chance.one_in(20) {
+            drawn.push(mark);
+        }
+    }
+    (code, drawn)
+}
+
 fn draw_mark(chance: &mut Chance, size: &Size) -> u32 {
     match chance.below(80) {
         0 => chance.below(size.marks + 2),
@@ -141,7 +159,8 @@ fn live_cell(second: &Memory, cell: u32) -> Option<&LiveCell> {
 }
 
 /// The head, the records of the edited cell and its marks, and those of the
-/// cells that share a mark with it.
+/// cells that share a mark with it; second parts only of cells with more than
+/// four marks.
 fn may_change(size: &Size, second: &Memory, edited: u32, touched: &[u32], word: usize) -> bool {
     let first_cell = 16 + 8 * size.marks as usize;
     let second_part = first_cell + 16 * size.cells as usize;
@@ -151,13 +170,15 @@ fn may_change(size: &Size, second: &Memory, edited: u32, touched: &[u32], word: 
     if word < first_cell {
         return touched.contains(&((word as u32 - 16) / 8));
     }
-    if word >= second_part {
-        return false;
-    }
-    let cell = ((word - first_cell) / 16) as u32;
-    cell == edited
-        || live_cell(second, cell)
-            .is_some_and(|cell| cell.marks.iter().any(|mark| touched.contains(&mark.0)))
+    let (part, least) = match word < second_part {
+        true => (first_cell, 0),
+        false => (second_part, 5),
+    };
+    let cell = ((word - part) / 16) as u32;
+    let shares = |cell: &LiveCell| {
+        cell.marks.len() >= least && cell.marks.iter().any(|mark| touched.contains(&mark.0))
+    };
+    (cell == edited && touched.len() >= least) || live_cell(second, cell).is_some_and(shares)
 }
 
 fn ask(chance: &mut Chance, size: &Size, words: &[u32], second: &Memory) {

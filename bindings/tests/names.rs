@@ -3,7 +3,7 @@
 
 use std::path::Path;
 
-use mengkiloh::Refusal;
+use mengkiloh::{Refusal, Type};
 
 /// What stands between the braces behind `opening` in a file of the repository.
 fn braced(file: &str, opening: &str) -> String {
@@ -59,6 +59,44 @@ fn the_header_has_these_names() {
         .zip(ours())
         .map(|(n, name)| format!("{} = {n}", upper(&name)));
     assert_eq!(theirs, Vec::from_iter(accepted.into_iter().chain(refused)));
+}
+
+/// Each type's line of the header: code, dimension, marks, facets, and the
+/// facets by their places.
+#[test]
+fn the_header_has_the_types_of_the_second_program() {
+    let inside = braced("include/mengkiloh.h", "enum mk_code {");
+    let theirs: Vec<String> = inside
+        .lines()
+        .map(|line| line.split_whitespace().collect::<Vec<_>>().join(" "))
+        .filter(|line| !line.is_empty())
+        .map(|line| line.replace(", /*", " /*"))
+        .collect();
+    let lines = second::shapes::TYPES.iter().map(|row| {
+        let places = |facet: &&[usize]| {
+            let places: Vec<String> = facet.iter().map(usize::to_string).collect();
+            format!(" ({})", places.join(","))
+        };
+        let facets: String = row.facets.iter().map(places).collect();
+        let (code, dimension, marks) = (row.code, row.dimension, row.marks);
+        let count = row.facets.len();
+        format!(
+            "MK_{} = {code} /* {dimension}, {marks}, {count}:{facets} */",
+            row.name
+        )
+    });
+    assert_eq!(theirs, Vec::from_iter(lines));
+}
+
+#[test]
+fn every_code_of_the_table_is_a_type_and_no_other() {
+    for code in 0..10 {
+        let known = second::shapes::type_with_code(code).is_some();
+        assert_eq!(
+            Type::try_from(code).map(u32::from),
+            known.then_some(code).ok_or(code)
+        );
+    }
 }
 
 #[test]

@@ -8,12 +8,12 @@ use std::alloc::{GlobalAlloc, Layout, System};
 const MARKS: u32 = 7;
 const CELLS: u32 = 10;
 
-/// Where the head keeps the live cells of the types 1 to 4 (docs/LAYOUT.md).
-const COUNTS: std::ops::RangeInclusive<usize> = 5..=8;
+/// Where the head keeps the live cells of the types 1 to 7 (docs/LAYOUT.md).
+const COUNTS: std::ops::RangeInclusive<usize> = 5..=11;
 
-/// A neighbour across each of 4 facets, 128 at most at each, is the longest
+/// A neighbour across each of 6 facets, 128 at most at each, is the longest
 /// list but that of a type.
-const LONGEST: usize = 4 * 128;
+const LONGEST: usize = 6 * 128;
 
 thread_local! {
     static LARGEST: std::cell::Cell<usize> = const { std::cell::Cell::new(0) };
@@ -83,7 +83,7 @@ fn a_stored_count_asks_for_no_more_than_the_capacity() {
         let mut words = small_map();
         words[COUNTS].fill(count);
         let map = Mesh::over(words);
-        for code in 1..=4_u32 {
+        for code in 1..=7_u32 {
             assert_eq!(map.count(code), Ok(count));
             let (answer, bytes) = asked_for(|| map.cells(code));
             assert_eq!(answer, Err(Refusal::OutputShort));
@@ -128,12 +128,12 @@ fn capacities_that_do_not_fit_ask_for_nothing() {
 
 /// Every call that makes a list, whatever it answers.
 fn every_list(map: &Mesh<Vec<u32>>) {
-    for code in 0..6_u32 {
+    for code in 0..9_u32 {
         let _ = map.cells(code);
     }
     for cell in (0..=CELLS).map(Cell) {
         let _ = (map.neighbours(cell), map.marks_of(cell));
-        for facet in 0..5 {
+        for facet in 0..7 {
             let _ = map.cycle(cell, facet);
         }
     }

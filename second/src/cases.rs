@@ -4,7 +4,9 @@
 //! P1 to P12 are the twelve cases. R13 on are runs besides: a cell that comes
 //! back, quads, a mesh emptied again, a record cut short, edits that are all
 //! refused, request 3's two quads that only look joined and two that share two
-//! edges, memory that is no mesh. `bound` lines are the outline's "To run":
+//! edges, a pyramid with a tetrahedron and a quad on its faces; with more marks
+//! a brick on a brick, a wedge between a brick and a pyramid, faces in crossed
+//! order, the wedge taken away; memory that is no mesh. `bound` lines are the outline's "To run":
 //! capacities, rooms, a mark's 128th and 129th cell, lists that fit exactly
 //! and lists one place too long.
 
@@ -15,11 +17,18 @@ const BAR: u32 = 1;
 const TRI: u32 = 2;
 const QUAD: u32 = 3;
 const TETRA: u32 = 4;
+const PYRA: u32 = 5;
+const PENTA: u32 = 6;
+const HEXA: u32 = 7;
 
 /// The capacities of every case, and the words it lies in.
 const MARKS: u32 = 5;
 const CELLS: u32 = 4;
 const WORDS: usize = 16 + 8 * 5 + 32 * 4;
+
+/// The same of the cases with bricks and wedges.
+const SOLID_MARKS: u32 = 12;
+const SOLID_WORDS: usize = 16 + 8 * 12 + 32 * 4;
 
 /// A list room that no list of a case outgrows.
 const PLENTY: usize = 128;
@@ -97,7 +106,7 @@ const CASES: &[Case] = &[
         &[
             Insert((4, TRI, &[0, 1, 3])),
             Insert((0, TRI, &[0, 1, 3])),
-            Insert((1, 5, &[0, 1, 3])),
+            Insert((1, 8, &[0, 1, 3])),
             Insert((1, TRI, &[0, 1])),
             Insert((1, TRI, &[0, 1, 5])),
             Insert((1, TRI, &[3, 4, 3])),
@@ -116,15 +125,53 @@ const CASES: &[Case] = &[
         &[(0, QUAD, &[0, 1, 2, 3]), (1, QUAD, &[0, 1, 2, 4])],
         &[],
     ),
+    case(
+        "R20",
+        &[
+            (0, PYRA, &[0, 1, 2, 3, 4]),
+            (1, TETRA, &[0, 1, 4, 2]),
+            (2, QUAD, &[0, 1, 2, 3]),
+        ],
+        &[],
+    ),
+];
+
+const BRICK: Edit = Insert((0, HEXA, &[0, 1, 2, 3, 4, 5, 6, 7]));
+const WEDGE: Edit = Insert((1, PENTA, &[1, 2, 8, 5, 6, 9]));
+const PYRAMID: Edit = Insert((2, PYRA, &[2, 8, 9, 6, 10]));
+const END: Edit = Insert((3, TETRA, &[1, 2, 8, 11]));
+
+const SOLIDS: &[Case] = &[
+    case(
+        "R21",
+        &[],
+        &[BRICK, Insert((1, HEXA, &[4, 5, 6, 7, 8, 9, 10, 11]))],
+    ),
+    case("R22", &[], &[BRICK, WEDGE, PYRAMID, END]),
+    case(
+        "R23",
+        &[],
+        &[
+            BRICK,
+            Insert((1, HEXA, &[4, 6, 5, 7, 8, 9, 10, 11])),
+            Insert((2, PYRA, &[7, 4, 6, 5, 8])),
+        ],
+    ),
+    case("R24", &[], &[BRICK, WEDGE, PYRAMID, END, Remove(1)]),
 ];
 
 /// All of it, one answer or one group of answers a line.
 pub fn text() -> String {
     let mut text = Text::default();
     for case in CASES {
-        text.case(case);
+        let memory = text.made(case, MARKS, WORDS);
+        text.everything(case.name, &memory);
     }
-    text.everything("R20", &Memory::lent(WORDS));
+    for case in SOLIDS {
+        let memory = text.made(case, SOLID_MARKS, SOLID_WORDS);
+        text.of_solids(case.name, &memory);
+    }
+    text.everything("R25", &Memory::lent(WORDS));
     text.formats();
     text.full_mark();
     text.lines
@@ -200,15 +247,16 @@ impl Text {
         writeln!(self.lines, "{line}").expect("a string takes any text");
     }
 
-    fn case(&mut self, case: &Case) {
+    /// The map of a case.
+    fn made(&mut self, case: &Case, marks: u32, words: usize) -> Memory {
         let name = case.name;
-        let mut memory = Memory::lent(WORDS);
+        let mut memory = Memory::lent(words);
         let mut words = Vec::new();
         for &(cell, code, marks) in case.built {
             words.extend([cell, code]);
             words.extend(marks);
         }
-        let built = match memory.build(MARKS, CELLS, &words) {
+        let built = match memory.build(marks, CELLS, &words) {
             Ok(()) => "accepted".to_string(),
             Err((refusal, place)) => format!("refused {} record {place}", refusal.number()),
         };
@@ -216,7 +264,7 @@ impl Text {
         for edit in case.edits {
             self.edit(name, &mut memory, edit);
         }
-        self.everything(name, &memory);
+        memory
     }
 
     fn edit(&mut self, name: &str, memory: &mut Memory, edit: &Edit) {
@@ -246,12 +294,40 @@ impl Text {
                 self.mark(name, memory, dimension, mark);
             }
         }
-        for code in 0..=5 {
+        self.types(name, memory);
+        self.sets(name, memory);
+        self.whole(name, memory);
+    }
+
+    /// The same of solids, with some sets only.
+    fn of_solids(&mut self, name: &str, memory: &Memory) {
+        for cell in 0..=CELLS {
+            self.cell(name, memory, cell);
+        }
+        for mark in 0..=SOLID_MARKS {
+            self.mark(name, memory, 3, mark);
+        }
+        self.types(name, memory);
+        self.set(name, memory, &[4, 5, 6, 7]);
+        self.set(name, memory, &[7, 5, 4, 6]);
+        self.set(name, memory, &[1, 2, 6, 5]);
+        self.set(name, memory, &[2, 8, 9, 6]);
+        self.set(name, memory, &[8, 2, 1]);
+        self.set(name, memory, &[0, 1, 6, 7]);
+        self.set(name, memory, &[0, 1, 2, 12]);
+        self.set(name, memory, &[0, 1, 2, 3, 12]);
+        self.whole(name, memory);
+    }
+
+    fn types(&mut self, name: &str, memory: &Memory) {
+        for code in 0..=8 {
             let cells = memory.cells_of_type(code, PLENTY).says();
             let count = memory.count_of_type(code).says();
             self.line(format!("{name} type {code}: cells {cells}, count {count}"));
         }
-        self.sets(name, memory);
+    }
+
+    fn whole(&mut self, name: &str, memory: &Memory) {
         let whole = if memory.whole() { "yes" } else { "no" };
         self.line(format!("{name} whole: {whole}"));
     }
@@ -263,7 +339,7 @@ impl Text {
         self.line(format!(
             "{name} cell {cell}: type {code}, marks {marks}, neighbours {neighbours}"
         ));
-        for facet in 0..=4 {
+        for facet in 0..=6 {
             let sibling = memory.sibling(cell, facet).says();
             let border = memory.border(cell, facet).says();
             let cycle = memory.cycle(cell, facet, PLENTY).says();
@@ -286,8 +362,8 @@ impl Text {
         ));
     }
 
-    /// Sets of 1 to 3 marks, ascending, and one with none, with a repeat and
-    /// with four.
+    /// Sets of 1 to 4 marks, ascending, and one with none, with a repeat and
+    /// with five.
     fn sets(&mut self, name: &str, memory: &Memory) {
         for a in 0..=MARKS {
             self.set(name, memory, &[a]);
@@ -295,12 +371,15 @@ impl Text {
                 self.set(name, memory, &[a, b]);
                 for c in b + 1..=MARKS {
                     self.set(name, memory, &[a, b, c]);
+                    for d in c + 1..=MARKS {
+                        self.set(name, memory, &[a, b, c, d]);
+                    }
                 }
             }
         }
         self.set(name, memory, &[]);
         self.set(name, memory, &[1, 0, 1]);
-        self.set(name, memory, &[0, 1, 2, 3]);
+        self.set(name, memory, &[0, 1, 2, 3, 4]);
     }
 
     fn set(&mut self, name: &str, memory: &Memory, set: &[u32]) {

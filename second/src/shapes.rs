@@ -15,7 +15,7 @@ pub struct Type {
 }
 
 /// "Local facet numbering is a fixed table, with places counted from 0 (CGNS
-/// counts from 1)". Rows stand in code order.
+/// counts from 1)"; rows 5 to 7 are request 1's. Rows stand in code order.
 pub const TYPES: &[Type] = &[
     Type {
         code: 1,
@@ -45,13 +45,53 @@ pub const TYPES: &[Type] = &[
         marks: 4,
         facets: &[&[0, 2, 1], &[0, 1, 3], &[1, 2, 3], &[2, 0, 3]],
     },
+    Type {
+        code: 5,
+        name: "PYRA_5",
+        dimension: 3,
+        marks: 5,
+        facets: &[
+            &[0, 3, 2, 1],
+            &[0, 1, 4],
+            &[1, 2, 4],
+            &[2, 3, 4],
+            &[3, 0, 4],
+        ],
+    },
+    Type {
+        code: 6,
+        name: "PENTA_6",
+        dimension: 3,
+        marks: 6,
+        facets: &[
+            &[0, 1, 4, 3],
+            &[1, 2, 5, 4],
+            &[2, 0, 3, 5],
+            &[0, 2, 1],
+            &[3, 4, 5],
+        ],
+    },
+    Type {
+        code: 7,
+        name: "HEXA_8",
+        dimension: 3,
+        marks: 8,
+        facets: &[
+            &[0, 3, 2, 1],
+            &[0, 1, 5, 4],
+            &[1, 2, 6, 5],
+            &[2, 3, 7, 6],
+            &[0, 4, 7, 3],
+            &[4, 5, 6, 7],
+        ],
+    },
 ];
 
 /// Refusal 6: "dimension not 1 to 3".
 pub const DIMENSIONS: RangeInclusive<u32> = 1..=3;
 
-/// The lookup's "set is given as 1 to 3 marks".
-pub const LOOKUP_MARKS: RangeInclusive<usize> = 1..=3;
+/// "Lookup takes sets of up to 4 marks."
+pub const LOOKUP_MARKS: RangeInclusive<usize> = 1..=4;
 
 /// "Half-facet number = 8 × cell + local facet."
 pub const HALF_FACETS_A_CELL: u32 = 8;

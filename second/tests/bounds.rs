@@ -69,10 +69,12 @@ fn the_128th_cell_of_a_mark_and_the_129th() {
         };
         assert_eq!(answer, Ok(()), "cell {cell}");
     }
+    let brick = [0, 392, 393, 394, 395, 396, 397, 398];
     let refusal = Err(Refusal::MarkFull);
     assert_eq!(memory.insert(128, BAR, &[0, 399]), refusal);
     assert_eq!(memory.insert(128, TRI, &[398, 399, 0]), refusal);
     assert_eq!(memory.insert(128, TETRA, &[396, 0, 398, 399]), refusal);
+    assert_eq!(memory.insert(128, HEXA, &brick), refusal);
     assert_eq!(memory.insert(128, TRI, &[397, 398, 399]), Ok(()));
     assert_eq!(memory.star(1, 0, PLENTY).unwrap().len(), 32);
     assert_eq!(memory.star(2, 0, PLENTY).unwrap().len(), 64);

@@ -4,18 +4,19 @@
 
 mod common;
 
-use common::maps::{BAR, QUAD, TETRA, TRI};
+use common::maps::{BAR, HEXA, PENTA, PYRA, QUAD, TETRA, TRI};
 use second::{room, Memory, Refusal};
 use std::fmt::Write;
 
-const MARKS: u32 = 12;
-const CELLS: u32 = 10;
+const MARKS: u32 = 22;
+const CELLS: u32 = 13;
 const PLACES: usize = 128;
 const WALL: [u32; 3] = [0, 5, 10];
 
-/// The hillside, the deck's two sides, the pier's wall, the rail, the rock.
+/// The hillside, the deck's two sides, the pier's wall, the rail, the rock, the
+/// pier's block, the pier, the ramp.
 #[rustfmt::skip]
-const RECORDS: [u32; 46] = [
+const RECORDS: [u32; 71] = [
     0, TRI, 0, 1, 2,
     1, TRI, 0, 2, 3,
     2, TRI, 0, 3, 4,
@@ -25,6 +26,9 @@ const RECORDS: [u32; 46] = [
     6, BAR, 0, 5,
     7, BAR, 5, 11,
     8, TETRA, 0, 1, 2, 11,
+    10, HEXA, 12, 13, 14, 15, 16, 17, 18, 19,
+    11, PYRA, 16, 17, 18, 19, 5,
+    12, PENTA, 13, 14, 20, 17, 18, 21,
 ];
 
 const CUT_SHORT: [u32; 9] = [0, TRI, 0, 1, 2, 1, TRI, 0, 2];
@@ -53,6 +57,7 @@ fn text() -> String {
     lines.verdict("remove 4", memory.remove(4));
     lines.verdict("remove 4", memory.remove(4));
     lines.all(&memory);
+    lines.verdict("remove 10", memory.remove(10));
     lines.verdict("remove 1", memory.remove(1));
     lines.verdict("insert 9", memory.insert(9, TRI, &WALL));
     lines.verdict("insert 9", memory.insert(9, QUAD, &WALL));
@@ -160,11 +165,16 @@ impl Lines {
             self.half_facet(memory, cell, 0);
         }
         self.half_facet(memory, 0, 3);
+        self.half_facet(memory, 10, 5);
+        self.half_facet(memory, 12, 0);
+        self.half_facet(memory, 12, 5);
         self.lookup(memory, &[5, 0]);
         self.lookup(memory, &[2, 1, 0]);
         self.lookup(memory, &[6, 10]);
         self.lookup(memory, &[5, 5]);
-        for code in 0..6 {
+        self.lookup(memory, &[18, 17, 19, 16]);
+        self.lookup(memory, &[12, 13, 14, 15, 16]);
+        for code in 0..9 {
             self.cells_of(memory, code);
         }
         self.whole(memory);

@@ -78,6 +78,9 @@ fn with_shapes_it_prints_the_facet_numbering() {
 2 TRI_3 dimension 2 marks 3 facets (0,1) (1,2) (2,0)
 3 QUAD_4 dimension 2 marks 4 facets (0,1) (1,2) (2,3) (3,0)
 4 TETRA_4 dimension 3 marks 4 facets (0,2,1) (0,1,3) (1,2,3) (2,0,3)
+5 PYRA_5 dimension 3 marks 5 facets (0,3,2,1) (0,1,4) (1,2,4) (2,3,4) (3,0,4)
+6 PENTA_6 dimension 3 marks 6 facets (0,1,4,3) (1,2,5,4) (2,0,3,5) (0,2,1) (3,4,5)
+7 HEXA_8 dimension 3 marks 8 facets (0,3,2,1) (0,1,5,4) (1,2,6,5) (2,3,7,6) (0,4,7,3) (4,5,6,7)
 ";
     assert_eq!(String::from_utf8(output.stdout).as_deref(), Ok(due));
     assert_eq!(output.status.code(), Some(0));

@@ -15,7 +15,7 @@ const MAPS: u32 = 40;
 /// From few marks, where nearly all is shared, to some more.
 fn maps(seed: u64) -> impl Iterator<Item = Memory> {
     let mut random = Random::from_seed(seed);
-    (0..MAPS).map(move |map| map_by_chance(&mut random, 5 + map % 4, CELLS))
+    (0..MAPS).map(move |map| map_by_chance(&mut random, 5 + map % 5, CELLS))
 }
 
 fn marks(memory: &Memory) -> u32 {
@@ -201,7 +201,7 @@ fn holding(memory: &Memory, group: &[u32], mark: u32) -> Vec<u32> {
 fn counts_are_lengths_of_lists_and_types_part_the_live_cells() {
     for memory in maps(6) {
         let mut all = Vec::new();
-        for code in 1..=4 {
+        for code in 1..=7 {
             let cells = memory.cells_of_type(code, PLENTY).unwrap();
             assert!(cells.windows(2).all(|two| two[0] < two[1]));
             assert_eq!(memory.count_of_type(code), Ok(cells.len()));
@@ -233,7 +233,7 @@ fn edits_answer_as_a_mesh_built_afresh_in_any_order() {
     let mut random = Random::from_seed(8);
     let (mut refused, mut accepted) = (0, 0);
     for map in 0..20 {
-        let mut memory = formatted(5 + map % 4, CELLS);
+        let mut memory = formatted(5 + map % 5, CELLS);
         for _ in 0..60 {
             let answer = match random.below(3) {
                 0 => memory.remove(random.below(CELLS as usize + 1) as u32),

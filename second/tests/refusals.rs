@@ -119,14 +119,14 @@ fn refusal_5_the_cell_is_not_live() {
 fn refusal_6_an_unknown_type_or_dimension() {
     let mut memory = p2();
     // 258 cut to 8 bits would be 2.
-    for code in [0, 5, 255, 256, 258, u32::MAX] {
+    for code in [0, 8, 255, 256, 258, u32::MAX] {
         assert_eq!(number(memory.insert(1, code, &[3, 4, 5])), 6);
         assert_eq!(number(memory.cells_of_type(code, PLENTY)), 6);
         assert_eq!(number(memory.count_of_type(code)), 6);
         let records = words(&[(0, TRI, &[0, 1, 2]), (1, code, &[3, 4, 5])]);
         assert_eq!(at_place(memory.clone().build(6, 4, &records)), (6, 1));
     }
-    for code in 1..=4 {
+    for code in 1..=7 {
         assert_eq!(number(memory.cells_of_type(code, PLENTY)), 0);
         assert_eq!(number(memory.count_of_type(code)), 0);
     }
@@ -140,10 +140,19 @@ fn refusal_6_an_unknown_type_or_dimension() {
 
 #[test]
 fn refusal_7_a_wrong_count_of_marks() {
-    let all = [0, 1, 2, 3, 4, 5];
-    for (code, due) in [(BAR, 2), (TRI, 3), (QUAD, 4), (TETRA, 4)] {
-        for count in 0..=6 {
-            let answer = number(p1().insert(0, code, &all[..count]));
+    let all = [0, 1, 2, 3, 4, 5, 6, 7, 8];
+    let types = [
+        (BAR, 2),
+        (TRI, 3),
+        (QUAD, 4),
+        (TETRA, 4),
+        (PYRA, 5),
+        (PENTA, 6),
+        (HEXA, 8),
+    ];
+    for (code, due) in types {
+        for count in 0..=9 {
+            let answer = number(formatted(9, 4).insert(0, code, &all[..count]));
             assert_eq!(
                 answer,
                 if count == due { 0 } else { 7 },
@@ -151,7 +160,7 @@ fn refusal_7_a_wrong_count_of_marks() {
             );
         }
     }
-    for (count, due) in [(0, 7), (1, 0), (2, 0), (3, 0), (4, 7), (5, 7), (6, 7)] {
+    for (count, due) in [(0, 7), (1, 0), (2, 0), (3, 0), (4, 0), (5, 7), (6, 7)] {
         assert_eq!(
             number(p2().lookup(&all[..count])),
             due,
@@ -210,8 +219,12 @@ fn refusal_9_a_mark_occurs_twice() {
         assert_eq!(at_place(memory.clone().build(6, 4, &records)), (9, 1));
     }
     assert_eq!(number(memory.insert(0, QUAD, &[0, 1, 2, 0])), 9);
+    assert_eq!(number(memory.insert(0, PYRA, &[0, 1, 2, 3, 0])), 9);
+    assert_eq!(number(memory.insert(0, PENTA, &[0, 1, 2, 3, 4, 3])), 9);
+    assert_eq!(number(memory.insert(0, HEXA, &[0, 1, 2, 3, 4, 5, 1, 0])), 9);
     assert_eq!(number(memory.insert(0, BAR, &[5, 5])), 9);
     assert_eq!(number(memory.lookup(&[3, 3])), 9);
+    assert_eq!(number(memory.lookup(&[3, 2, 1, 3])), 9);
 }
 
 /// By type and by set: quads that run differently through the same marks are
@@ -259,14 +272,17 @@ fn refusal_12_the_list_does_not_fit() {
 
 #[test]
 fn refusal_13_a_local_facet_not_below_the_types_count() {
-    let records: [Record; 4] = [
+    let records: [Record; 7] = [
         (0, BAR, &[0, 1]),
         (1, TRI, &[0, 1, 2]),
         (2, QUAD, &[0, 1, 2, 3]),
         (3, TETRA, &[0, 1, 2, 3]),
+        (4, PYRA, &[0, 1, 2, 3, 4]),
+        (5, PENTA, &[0, 1, 2, 3, 4, 5]),
+        (6, HEXA, &[0, 1, 2, 3, 4, 5, 6, 7]),
     ];
-    let memory = mesh(6, 4, &records);
-    for (cell, count) in [(0, 2), (1, 3), (2, 4), (3, 4)] {
+    let memory = mesh(8, 7, &records);
+    for (cell, count) in [(0, 2), (1, 3), (2, 4), (3, 4), (4, 5), (5, 5), (6, 6)] {
         for facet in 0..8 {
             let due = if facet < count { 0 } else { 13 };
             assert_eq!(number(memory.sibling(cell, facet)), due);

@@ -10,6 +10,9 @@ fn the_facet_numbering_is_the_outlines() {
 2 TRI_3 dimension 2 marks 3 facets (0,1) (1,2) (2,0)
 3 QUAD_4 dimension 2 marks 4 facets (0,1) (1,2) (2,3) (3,0)
 4 TETRA_4 dimension 3 marks 4 facets (0,2,1) (0,1,3) (1,2,3) (2,0,3)
+5 PYRA_5 dimension 3 marks 5 facets (0,3,2,1) (0,1,4) (1,2,4) (2,3,4) (3,0,4)
+6 PENTA_6 dimension 3 marks 6 facets (0,1,4,3) (1,2,5,4) (2,0,3,5) (0,2,1) (3,4,5)
+7 HEXA_8 dimension 3 marks 8 facets (0,3,2,1) (0,1,5,4) (1,2,6,5) (2,3,7,6) (0,4,7,3) (4,5,6,7)
 ";
     assert_eq!(numbering(), outline);
 }
@@ -21,7 +24,10 @@ fn each_type_has_its_count_of_facets() {
         .iter()
         .map(|row| (row.code, row.facets.len()))
         .collect();
-    assert_eq!(counts, [(1, 2), (2, 3), (3, 4), (4, 4)]);
+    assert_eq!(
+        counts,
+        [(1, 2), (2, 3), (3, 4), (4, 4), (5, 5), (6, 5), (7, 6)]
+    );
 }
 
 /// The anchor of a group needs it: a cell that holds a mark has a facet that
@@ -50,6 +56,24 @@ fn every_facet_is_a_set_of_the_types_places() {
                 "{facet:?} of {}",
                 row.name
             );
+        }
+    }
+}
+
+/// The faces of a solid close it: each edge of a face is an edge of one other
+/// face, which runs through it the other way.
+#[test]
+fn the_faces_of_a_solid_close_it_and_run_one_way() {
+    for row in TYPES.iter().filter(|row| row.dimension == 3) {
+        let edges: Vec<(usize, usize)> = row
+            .facets
+            .iter()
+            .flat_map(|face| (0..face.len()).map(|k| (face[k], face[(k + 1) % face.len()])))
+            .collect();
+        for &(from, to) in &edges {
+            let same = edges.iter().filter(|&&it| it == (from, to)).count();
+            let against = edges.iter().filter(|&&it| it == (to, from)).count();
+            assert_eq!((same, against), (1, 1), "{from} to {to} of {}", row.name);
         }
     }
 }

@@ -1,6 +1,6 @@
 /*
  * A hillside and a viaduct that touch at mark 0, asked about from C. The deck's two sides and a pier's
- * wall share the edge between the marks 0 and 5, so that edge has three cells.
+ * wall share the edge between the marks 0 and 5, so that edge has three cells. The pier stands on a block.
  */
 #include <stddef.h>
 #include <stdint.h>
@@ -8,8 +8,8 @@
 
 #include "mengkiloh.h"
 
-#define MARKS 12
-#define CELLS 10
+#define MARKS 22
+#define CELLS 13
 #define WORDS MK_ROOM(MARKS, CELLS)
 #define PLACES 128
 #define UNWRITTEN 4294967295u
@@ -24,7 +24,17 @@ static const uint32_t records[] = {
     6, MK_BAR_2, 0, 5,          /* the rail */
     7, MK_BAR_2, 5, 11,         /* */
     8, MK_TETRA_4, 0, 1, 2, 11, /* the rock below */
+    10, MK_HEXA_8, 12, 13, 14, 15, 16, 17, 18, 19, /* the pier's block */
+    11, MK_PYRA_5, 16, 17, 18, 19, 5,              /* the pier */
+    12, MK_PENTA_6, 13, 14, 20, 17, 18, 21,        /* the ramp at its side */
 };
+
+static const uint32_t edge[] = {5, 0};
+static const uint32_t face[] = {2, 1, 0};
+static const uint32_t apart[] = {6, 10};
+static const uint32_t twice[] = {5, 5};
+static const uint32_t top[] = {18, 17, 19, 16};
+static const uint32_t many[] = {12, 13, 14, 15, 16};
 
 static const uint32_t cut_short[] = {0, MK_TRI_3, 0, 1, 2, 1, MK_TRI_3, 0, 2};
 
@@ -84,9 +94,8 @@ static void first_anchor(uint32_t dimension, uint32_t mark)
     printf("\n");
 }
 
-static void lookup(uint32_t a, uint32_t b, uint32_t c, size_t n)
+static void lookup(const uint32_t *set, size_t n)
 {
-    const uint32_t set[] = {a, b, c};
     uint32_t found = UNWRITTEN;
     uint32_t half = UNWRITTEN;
     uint8_t refusal = mk_lookup(mesh, WORDS, set, n, &found, &half);
@@ -169,11 +178,16 @@ static void all(void)
         half_facet(cell, 0);
     }
     half_facet(0, 3);
-    lookup(5, 0, 0, 2);
-    lookup(2, 1, 0, 3);
-    lookup(6, 10, 0, 2);
-    lookup(5, 5, 0, 2);
-    for (uint32_t type = 0; type < 6; type++) {
+    half_facet(10, 5);
+    half_facet(12, 0);
+    half_facet(12, 5);
+    lookup(edge, 2);
+    lookup(face, 3);
+    lookup(apart, 2);
+    lookup(twice, 2);
+    lookup(top, 4);
+    lookup(many, 5);
+    for (uint32_t type = 0; type < 9; type++) {
         cells_of(type);
     }
     whole();
@@ -205,6 +219,7 @@ int main(void)
     say_verdict("remove 4", mk_remove(mesh, WORDS, 4));
     say_verdict("remove 4", mk_remove(mesh, WORDS, 4));
     all();
+    say_verdict("remove 10", mk_remove(mesh, WORDS, 10));
     say_verdict("remove 1", mk_remove(mesh, WORDS, 1));
     say_verdict("insert 9", mk_insert(mesh, WORDS, 9, MK_TRI_3, wall, 3));
     say_verdict("insert 9", mk_insert(mesh, WORDS, 9, MK_QUAD_4, wall, 3));

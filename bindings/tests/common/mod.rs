@@ -99,9 +99,9 @@ impl Question {
     pub fn draw(chance: &mut Chance, marks: u32, cells: u32) -> Question {
         let cell = chance.below(cells + 1 + cells / 16);
         let mark = chance.below(marks + 1 + marks / 16);
-        let facet = chance.below(5);
+        let facet = chance.below(7);
         let dimension = chance.below(5);
-        let code = chance.below(6);
+        let code = chance.below(9);
         match chance.below(12) {
             0 => Question::Type(cell),
             1 => Question::Marks(cell),
@@ -113,7 +113,7 @@ impl Question {
             7 => Question::Anchors(dimension, mark),
             8 => Question::FirstAnchor(dimension, mark),
             9 => {
-                let size = chance.below(5);
+                let size = chance.below(6);
                 Question::Lookup((0..size).map(|_| chance.below(marks + 1)).collect())
             }
             10 => Question::Cells(code),
@@ -139,7 +139,7 @@ impl Question {
         match *self {
             Question::Type(c) => ours(mesh.type_of(Cell(c)), one),
             Question::Marks(c) => ours(mesh.marks_of(Cell(c)), plain),
-            Question::Neighbours(c) => listed(512, |out| mesh.neighbours_into(Cell(c), out)),
+            Question::Neighbours(c) => listed(762, |out| mesh.neighbours_into(Cell(c), out)),
             Question::Sibling(c, facet) => ours(mesh.sibling(Cell(c), facet), |half| one(half.0)),
             Question::Border(c, facet) => ours(mesh.border(Cell(c), facet), yes),
             Question::Cycle(c, facet) => listed(128, |out| mesh.cycle_into(Cell(c), facet, out)),
@@ -191,11 +191,17 @@ impl Question {
 pub fn told(words: &[u32]) -> Memory {
     let (marks, cells) = (words[1], words[2]);
     let first = 16 + 8 * marks as usize;
+    let second = first + 16 * cells as usize;
     let live = (0..cells)
         .filter_map(|number| {
-            let record = &words[first + 16 * number as usize..][..16];
-            let row = type_with_code(record[0])?;
-            let marks = record[1..=row.marks].iter().copied();
+            let part = |from: usize| &words[from + 16 * number as usize..][..16];
+            let row = type_with_code(part(first)[0])?;
+            // all marks of a cell with more than four stand in its second part
+            let marks = match row.marks {
+                0..=4 => &part(first)[1..],
+                _ => part(second),
+            };
+            let marks = marks[..row.marks].iter().copied();
             Some(LiveCell {
                 number: second::map::Cell(number),
                 row,

@@ -43,8 +43,8 @@ const CELLS: u32 = 4;
 
 // How many cases there are. P1 to P12 are the outline's. R13 on are runs besides: a cell that comes back; quads with a triangle and a
 // bar; a mesh emptied again; a record cut short; edits that are all refused; request 3's two quads that only look joined, and two that
-// share two edges.
-const CASES: usize = 19;
+// share two edges; a pyramid with a tetrahedron and a quad on its faces.
+const CASES: usize = 20;
 
 // How many words the records of each case have, and the records, padded with 0.
 const SIZES: [u32; CASES] = [
@@ -67,6 +67,7 @@ const SIZES: [u32; CASES] = [
     5,
     12,
     12,
+    19,
 ];
 
 const BUILT: [[u32; 20]; CASES] = [
@@ -89,31 +90,50 @@ const BUILT: [[u32; 20]; CASES] = [
     [0, 2, 0, 1, 2, 0, 0, 0, 0, 0, 0, 0, 0, 0, 0, 0, 0, 0, 0, 0],
     [0, 3, 0, 1, 2, 3, 1, 3, 0, 4, 1, 2, 0, 0, 0, 0, 0, 0, 0, 0],
     [0, 3, 0, 1, 2, 3, 1, 3, 0, 1, 2, 4, 0, 0, 0, 0, 0, 0, 0, 0],
+    [0, 5, 0, 1, 2, 3, 4, 1, 4, 0, 1, 4, 2, 2, 3, 0, 1, 2, 3, 0],
 ];
 
-// The edits after the builds, in order: case, 1 for an insert and 0 for a removal, cell, type, how many marks, the marks.
-const EDITS: usize = 19;
+// Cases with more marks, behind those, made by inserts: a brick on a brick; a wedge between a brick and a pyramid, a tetrahedron on its
+// end; faces in crossed order; the wedge taken away.
+const SOLID_MARKS: u32 = 12;
 
-const EDITED: [[u32; 8]; EDITS] = [
-    [9, 0, 1, 0, 0, 0, 0, 0],
-    [10, 1, 1, 2, 3, 2, 0, 1],
-    [11, 1, 0, 2, 3, 0, 1, 1],
-    [13, 0, 1, 0, 0, 0, 0, 0],
-    [13, 1, 1, 2, 3, 0, 1, 3],
-    [14, 1, 3, 1, 2, 0, 1, 0],
-    [15, 0, 0, 0, 0, 0, 0, 0],
-    [15, 0, 3, 0, 0, 0, 0, 0],
-    [15, 0, 1, 0, 0, 0, 0, 0],
-    [15, 0, 2, 0, 0, 0, 0, 0],
-    [17, 1, 4, 2, 3, 0, 1, 3],
-    [17, 1, 0, 2, 3, 0, 1, 3],
-    [17, 1, 1, 5, 3, 0, 1, 3],
-    [17, 1, 1, 2, 2, 0, 1, 0],
-    [17, 1, 1, 2, 3, 0, 1, 5],
-    [17, 1, 1, 2, 3, 3, 4, 3],
-    [17, 1, 1, 2, 3, 1, 2, 0],
-    [17, 0, 4, 0, 0, 0, 0, 0],
-    [17, 0, 1, 0, 0, 0, 0, 0],
+// The edits after the builds, in order: case, 1 for an insert and 0 for a removal, cell, type, how many marks, the marks.
+const EDITS: usize = 33;
+
+const EDITED: [[u32; 13]; EDITS] = [
+    [9, 0, 1, 0, 0, 0, 0, 0, 0, 0, 0, 0, 0],
+    [10, 1, 1, 2, 3, 2, 0, 1, 0, 0, 0, 0, 0],
+    [11, 1, 0, 2, 3, 0, 1, 1, 0, 0, 0, 0, 0],
+    [13, 0, 1, 0, 0, 0, 0, 0, 0, 0, 0, 0, 0],
+    [13, 1, 1, 2, 3, 0, 1, 3, 0, 0, 0, 0, 0],
+    [14, 1, 3, 1, 2, 0, 1, 0, 0, 0, 0, 0, 0],
+    [15, 0, 0, 0, 0, 0, 0, 0, 0, 0, 0, 0, 0],
+    [15, 0, 3, 0, 0, 0, 0, 0, 0, 0, 0, 0, 0],
+    [15, 0, 1, 0, 0, 0, 0, 0, 0, 0, 0, 0, 0],
+    [15, 0, 2, 0, 0, 0, 0, 0, 0, 0, 0, 0, 0],
+    [17, 1, 4, 2, 3, 0, 1, 3, 0, 0, 0, 0, 0],
+    [17, 1, 0, 2, 3, 0, 1, 3, 0, 0, 0, 0, 0],
+    [17, 1, 1, 8, 3, 0, 1, 3, 0, 0, 0, 0, 0],
+    [17, 1, 1, 2, 2, 0, 1, 0, 0, 0, 0, 0, 0],
+    [17, 1, 1, 2, 3, 0, 1, 5, 0, 0, 0, 0, 0],
+    [17, 1, 1, 2, 3, 3, 4, 3, 0, 0, 0, 0, 0],
+    [17, 1, 1, 2, 3, 1, 2, 0, 0, 0, 0, 0, 0],
+    [17, 0, 4, 0, 0, 0, 0, 0, 0, 0, 0, 0, 0],
+    [17, 0, 1, 0, 0, 0, 0, 0, 0, 0, 0, 0, 0],
+    [21, 1, 0, 7, 8, 0, 1, 2, 3, 4, 5, 6, 7],
+    [21, 1, 1, 7, 8, 4, 5, 6, 7, 8, 9, 10, 11],
+    [22, 1, 0, 7, 8, 0, 1, 2, 3, 4, 5, 6, 7],
+    [22, 1, 1, 6, 6, 1, 2, 8, 5, 6, 9, 0, 0],
+    [22, 1, 2, 5, 5, 2, 8, 9, 6, 10, 0, 0, 0],
+    [22, 1, 3, 4, 4, 1, 2, 8, 11, 0, 0, 0, 0],
+    [23, 1, 0, 7, 8, 0, 1, 2, 3, 4, 5, 6, 7],
+    [23, 1, 1, 7, 8, 4, 6, 5, 7, 8, 9, 10, 11],
+    [23, 1, 2, 5, 5, 7, 4, 6, 5, 8, 0, 0, 0],
+    [24, 1, 0, 7, 8, 0, 1, 2, 3, 4, 5, 6, 7],
+    [24, 1, 1, 6, 6, 1, 2, 8, 5, 6, 9, 0, 0],
+    [24, 1, 2, 5, 5, 2, 8, 9, 6, 10, 0, 0, 0],
+    [24, 1, 3, 4, 4, 1, 2, 8, 11, 0, 0, 0, 0],
+    [24, 0, 1, 0, 0, 0, 0, 0, 0, 0, 0, 0, 0],
 ];
 
 fn size(p: u32) -> u32 {
@@ -138,8 +158,8 @@ fn records(p: u32) -> [u32; 20] {
     BUILT[at - 1]
 }
 
-fn edit_row(k: usize) -> [u32; 8] {
-    if k < EDITS { EDITED[k] } else { [0; 8] }
+fn edit_row(k: usize) -> [u32; 13] {
+    if k < EDITS { EDITED[k] } else { [0; 13] }
 }
 
 fn say(text: &[u8]) {
@@ -284,7 +304,7 @@ fn about_half(w: &[u32], p: u32, c: Cell, f: u32) {
 }
 
 fn about_halves(w: &[u32], p: u32, c: Cell) {
-    for f in 0..5 {
+    for f in 0..7 {
         about_half(w, p, c, f);
     }
 }
@@ -336,12 +356,22 @@ fn about_set(w: &[u32], p: u32, set: &[u32]) {
     say(b"\n");
 }
 
+// The sets of marks that start with a, b and c.
+fn about_fours(w: &[u32], p: u32, a: u32, b: u32, c: u32) {
+    about_set(w, p, &[a, b, c]);
+    for d in 0..6 {
+        if c < d {
+            about_set(w, p, &[a, b, c, d]);
+        }
+    }
+}
+
 // The sets of marks that start with a and b.
 fn about_triples(w: &[u32], p: u32, a: u32, b: u32) {
     about_set(w, p, &[a, b]);
     for c in 0..6 {
         if b < c {
-            about_set(w, p, &[a, b, c]);
+            about_fours(w, p, a, b, c);
         }
     }
 }
@@ -370,7 +400,7 @@ fn about_dimensions(w: &[u32], p: u32) {
 }
 
 fn about_types(w: &[u32], p: u32) {
-    for t in 0..6 {
+    for t in 0..9 {
         about_type(w, p, t);
     }
 }
@@ -398,7 +428,33 @@ fn everything(w: &[u32], p: u32) {
     about_sets(w, p);
     about_set(w, p, &[]);
     about_set(w, p, &[1, 0, 1]);
-    about_set(w, p, &[0, 1, 2, 3]);
+    about_set(w, p, &[0, 1, 2, 3, 4]);
+    about_whole(w, p);
+}
+
+fn about_solid_marks(w: &[u32], p: u32) {
+    for v in 0..13 {
+        about_mark(w, p, 3, Mark(v));
+    }
+}
+
+fn about_faces(w: &[u32], p: u32) {
+    about_set(w, p, &[4, 5, 6, 7]);
+    about_set(w, p, &[7, 5, 4, 6]);
+    about_set(w, p, &[1, 2, 6, 5]);
+    about_set(w, p, &[2, 8, 9, 6]);
+    about_set(w, p, &[8, 2, 1]);
+    about_set(w, p, &[0, 1, 6, 7]);
+    about_set(w, p, &[0, 1, 2, 12]);
+    about_set(w, p, &[0, 1, 2, 3, 12]);
+}
+
+// The same of solids, with some sets only.
+fn of_solids(w: &[u32], p: u32) {
+    about_cells(w, p);
+    about_solid_marks(w, p);
+    about_types(w, p);
+    about_faces(w, p);
     about_whole(w, p);
 }
 
@@ -459,10 +515,24 @@ fn one_case(p: u32) {
     run_case(&mut w, p);
 }
 
+fn run_solids(w: &mut [u32], p: u32) {
+    say_case(p);
+    say(b" build:");
+    say_built(build(w, SOLID_MARKS, CELLS, &[]));
+    say(b"\n");
+    try_edits(w, p);
+    of_solids(w, p);
+}
+
+fn solids(p: u32) {
+    let mut w = [0u32; 240];
+    run_solids(&mut w, p);
+}
+
 // Memory that is no mesh.
 fn no_mesh() {
     let w = [0u32; 184];
-    everything(&w, 20);
+    everything(&w, 25);
 }
 
 fn try_format(w: &mut [u32], marks: u32, cells: u32) {
@@ -599,9 +669,13 @@ fn full_mark() {
 }
 
 fn main() {
-    for p in 1..20 {
+    for p in 1..21 {
         one_case(p);
     }
+    solids(21);
+    solids(22);
+    solids(23);
+    solids(24);
     no_mesh();
     formats();
     full_mark();

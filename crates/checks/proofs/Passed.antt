@@ -11,6 +11,7 @@ use Rattle.lists.proofs.Members.{at-has}
 use Rattle.lists.proofs.Bools.{and-left, and-right}
 use Rattle.lists.proofs.Counts.{neither, none-has}
 use Rattle.shapes.specs.Shapes.{shape, facetCount}
+use Rattle.shapes.specs.Sizes.{mostCorners}
 use Rattle.numbers.specs.declared.Caps.{Caps}
 use Rattle.map.specs.Cells.{Map, live}
 use Rattle.map.specs.Answers.{Check, _when_, cellChecks, halfChecks, starChecks, setChecks, typeChecks}
@@ -90,9 +91,9 @@ module _ (w : List ℕ) (caps : Caps) (r : Verdict) (v : r ≡ Accepted) (m : Ma
   unfolding setChecks _when_ all
   set-passed set k =
       let p = accepted w caps (λ m. setChecks m set) r k v m e wf (set-numbered m set) in
-      let b = neither (ltb (length set) 1) (ltb 3 (length set)) (not-true (ltb (length set) 1 || ltb 3 (length set))
-      (and-left (not (ltb (length set) 1 || ltb 3 (length set))) (not (any (leb (m .caps .marks)) set) && (not (repeats set) && true)) p)) in
+      let b = neither (ltb (length set) 1) (ltb mostCorners (length set)) (not-true (ltb (length set) 1 || ltb mostCorners (length set))
+      (and-left (not (ltb (length set) 1 || ltb mostCorners (length set))) (not (any (leb (m .caps .marks)) set) && (not (repeats set) && true)) p)) in
       let some : 0 < length set = ltb-false (length set) 1 (b .0) in
-      let q = and-right (not (ltb (length set) 1 || ltb 3 (length set))) (not (any (leb (m .caps .marks)) set) && (not (repeats set) && true)) p in
+      let q = and-right (not (ltb (length set) 1 || ltb mostCorners (length set))) (not (any (leb (m .caps .marks)) set) && (not (repeats set) && true)) p in
       let inside : any (leb (m .caps .marks)) set ≡ false = not-true (any (leb (m .caps .marks)) set) (and-left (not (any (leb (m .caps .marks)) set)) (not (repeats set) && true) q) in
       (some, leb-false (m .caps .marks) (getD set 0 0) (none-has (leb (m .caps .marks)) set inside (getD set 0 0) (at-has set 0 some)))

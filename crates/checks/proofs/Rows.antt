@@ -10,6 +10,7 @@ use lib.ListN.{length}
 use Rattle.lists.specs.Lists.{any, repeats}
 use Rattle.words.specs.Words.{partOf}
 use Rattle.shapes.specs.Shapes.{shape, facetCount}
+use Rattle.shapes.specs.Sizes.{mostCorners}
 use Rattle.shapes.proofs.Facts.{facts}
 use Rattle.numbers.specs.declared.Caps.{Caps}
 use Rattle.store.specs.Slots.{codeIn, marksAt}
@@ -126,20 +127,20 @@ module _ (w : List ℕ) (caps : Caps) (set : List ℕ) where
   set-none h = record { says = λ m e wf. rw (lt-ltb (length set) 1 h) }
 
   module _ (some : 1 ≤ length set) where
-    pub set-many : 3 < length set → Checked w caps (λ m. setChecks m set) (Refused CountWrong)
+    pub set-many : mostCorners < length set → Checked w caps (λ m. setChecks m set) (Refused CountWrong)
     unfolding setChecks _when_ answer verdictSays refused
-    set-many h = record { says = λ m e wf. rw (le-ltb (length set) 1 some, lt-ltb 3 (length set) h) }
+    set-many h = record { says = λ m e wf. rw (le-ltb (length set) 1 some, lt-ltb mostCorners (length set) h) }
 
-    module _ (few : length set ≤ 3) where
+    module _ (few : length set ≤ mostCorners) where
       pub set-outside : any (leb (caps .marks)) set ≡ true → Checked w caps (λ m. setChecks m set) (Refused MarkOutside)
       unfolding setChecks _when_ answer verdictSays refused
-      set-outside h = record { says = λ m e wf. rw (le-ltb (length set) 1 some, le-ltb 3 (length set) few, marks-of caps m e, h) }
+      set-outside h = record { says = λ m e wf. rw (le-ltb (length set) 1 some, le-ltb mostCorners (length set) few, marks-of caps m e, h) }
 
       module _ (inside : any (leb (caps .marks)) set ≡ false) where
         pub set-twice : repeats set ≡ true → Checked w caps (λ m. setChecks m set) (Refused MarkTwice)
         unfolding setChecks _when_ answer verdictSays refused
-        set-twice h = record { says = λ m e wf. rw (le-ltb (length set) 1 some, le-ltb 3 (length set) few, marks-of caps m e, inside, h) }
+        set-twice h = record { says = λ m e wf. rw (le-ltb (length set) 1 some, le-ltb mostCorners (length set) few, marks-of caps m e, inside, h) }
 
         pub set-good : repeats set ≡ false → Checked w caps (λ m. setChecks m set) Accepted
         unfolding setChecks _when_ answer verdictSays given
-        set-good h = record { says = λ m e wf. rw (le-ltb (length set) 1 some, le-ltb 3 (length set) few, marks-of caps m e, inside, h) }
+        set-good h = record { says = λ m e wf. rw (le-ltb (length set) 1 some, le-ltb mostCorners (length set) few, marks-of caps m e, inside, h) }

@@ -14,6 +14,7 @@ use map::Verdict;
 use numbers::Caps;
 use numbers::Cell;
 use numbers::Mark;
+use shapes::MOST_CORNERS;
 use shapes::dimension;
 use shapes::facet_count;
 use store::Opened;
@@ -82,14 +83,14 @@ fn check_type(w: &[u32], caps: Caps, t: u32) -> Verdict
     Verdict::Accepted
 }
 
-// A set of marks: one to three, all of the mesh, none twice.
+// A set of marks: at least one, at most as many as a facet has, all of the mesh, none twice.
 fn check_set(w: &[u32], caps: Caps, set: &[u32]) -> Verdict
     ensures { λ r. ⌜ Checked (now (w .entry)) caps (λ m. setChecks m (now (set .entry))) r ⌝ }
 {
     if set.len() < 1 {
         return Verdict::Refused(Refusal::CountWrong);
     }
-    if 3 < set.len() {
+    if (MOST_CORNERS as usize) < set.len() {
         return Verdict::Refused(Refusal::CountWrong);
     }
     if reaches(set, caps.marks) {

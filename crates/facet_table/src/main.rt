@@ -1,5 +1,6 @@
 // Prints the facet numbering from the proved table: a line for each type, in code order.
 use libc::STDOUT_FILENO;
+use shapes::CODES;
 use shapes::FacetTable;
 
 fn write_type(t: u32) {
@@ -8,6 +9,9 @@ fn write_type(t: u32) {
         2 => io::write_all(STDOUT_FILENO, b"TRI_3"),
         3 => io::write_all(STDOUT_FILENO, b"QUAD_4"),
         4 => io::write_all(STDOUT_FILENO, b"TETRA_4"),
+        5 => io::write_all(STDOUT_FILENO, b"PYRA_5"),
+        6 => io::write_all(STDOUT_FILENO, b"PENTA_6"),
+        7 => io::write_all(STDOUT_FILENO, b"HEXA_8"),
         _ => io::write_all(STDOUT_FILENO, b"?"),
     }
     ;
@@ -48,7 +52,7 @@ fn write_line(rows: &FacetTable, t: u32) {
 
 fn main() {
     let rows = shapes::facet_table();
-    for t in 1..5 {
+    for t in 1..CODES {
         write_line(&rows, t);
     }
 }

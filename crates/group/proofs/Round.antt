@@ -15,7 +15,7 @@ use Rattle.lists.proofs.Select.{select-in, select-out}
 use Rattle.lists.proofs.Order.{select-ascends}
 use Rattle.lists.proofs.Keep.{keep-size}
 use Rattle.numbers.specs.Half.{cut, halfOf}
-use Rattle.shapes.specs.Shapes.{Shape, noShape, bar, tri, quad, tetra, shapes, shape, facetCount}
+use Rattle.shapes.specs.Shapes.{Shape, noShape, shapes, shape, facetCount}
 use Rattle.shapes.proofs.Facts.{facts}
 use Rattle.numbers.specs.declared.Caps.{Caps}
 use Rattle.store.specs.Slots.{codeIn}

@@ -1,21 +1,25 @@
 -- The facets of a cell of a sound map.
 use mathlib.Core.Path.{_≡_, refl, sym, ap, _∙_}
-use mathlib.Core.Bool.{true}
+use mathlib.Core.Bool.{true, false}
 use mathlib.Core.List.{List, [], map}
-use Prim.Native.Nat.{ℕ, _<_, _≤_}
+use Prim.Native.Nat.{ℕ, _/_, _%_, _<_, _≤_}
 use native.Mathlib.Omega.{arith}
+use borrow.Author.Tests.{ltb-true}
 use lib.ListN.{length, getD, length-map, List·getD-map}
-use Rattle.lists.specs.Lists.{has, sameSet}
+use Rattle.lists.specs.Lists.{has, repeats, sameSet}
 use Rattle.lists.proofs.Bools.{same-test}
 use Rattle.lists.proofs.Members.{at-has, has-at, once}
 use Rattle.lists.proofs.Sets.{same-has, has-same}
 use Rattle.lists.proofs.Alike.{map-at}
+use Rattle.lists.proofs.Sized.{map-once, same-size}
 use Rattle.shapes.specs.Shapes.{shape}
-use Rattle.shapes.specs.Facts.{facetAt}
+use Rattle.shapes.specs.Facts.{facetAt, dimensionOf}
 use Rattle.shapes.proofs.Facts.{facts}
-use Rattle.map.specs.Cells.{Map, holds, facetsAt}
+use Rattle.map.specs.Cells.{Map, dimensionAt, holds, facetsAt}
+use Rattle.map.specs.Siblings.{Half, isHalf, marksOf, siblings}
 use Rattle.map.specs.Sound.{Sound}
 use Rattle.laws.proofs.Anchors.{facet-mark}
+use Rattle.laws.proofs.Cycles.{sharers-has}
 
 -- a cell has as many facets as its type
 pub facets-count : (m : Map) (c : ℕ) → length (facetsAt m c) ≡ length (shape (m .at c .code) .facets)
@@ -80,3 +84,30 @@ module _ (m : Map) (c f : ℕ) (hf : f < length (facetsAt m c)) where
       let place = getD ps (r .0) 0 in
       let less : place < length (m .at c .marks) = omega (arith, o .fitting c, facts (m .at c .code) .inside f (r .0) (r .1)) in
       o .inside v c (ap (λ (u : ℕ). has u (m .at c .marks)) (sym (r .2)) ∙ at-has (m .at c .marks) place less)
+
+-- "Sibling facts are proved once over the facet sizes": facets with one set have one size, and a facet's size tells the dimension
+module _ (m : Map) (o : Sound m) where
+  facet-once : (c f : ℕ) → f < length (facetsAt m c) → repeats (getD (facetsAt m c) f []) ≡ false
+  facet-once c f hf =
+      rw (mapped m c f hf)
+      (map-once (mark m c f hf) (ps m c f hf) (facts (m .at c .code) .distinct f) (λ x y hx hy e. once (m .at c .marks) (o .distinct c) x y (below x hx) (below y hy) e))
+    where
+      below : (v : ℕ) → has v (facetAt (shape (m .at c .code)) f) ≡ true → v < length (m .at c .marks)
+      below v q =
+          let r = has-at v (facetAt (shape (m .at c .code)) f) q in
+          omega (arith, o .fitting c, rw (r .2) at (facts (m .at c .code) .inside f (r .0) (r .1)))
+
+  facet-size : (c f : ℕ) → f < length (facetsAt m c) → dimensionOf (length (getD (facetsAt m c) f [])) ≡ dimensionAt m c
+  unfolding dimensionAt
+  facet-size c f hf = rw (mapped m c f hf, length-map) (facts (m .at c .code) .size f (omega (arith, facets-count m c)))
+
+  -- so a facet of a solid is never the sibling of an edge
+  pub siblings-dimension : (h k : ℕ) → Half m h → has k (siblings m h) ≡ true → dimensionAt m (k / 8) ≡ dimensionAt m (h / 8)
+  unfolding siblings marksOf isHalf
+  siblings-dimension h k half e =
+      let both = sharers-has m (marksOf m h) k e in
+      let hf : h % 8 < length (facetsAt m (h / 8)) = ltb-true _ _ (half .facet) in
+      let kf : k % 8 < length (facetsAt m (k / 8)) = ltb-true _ _ (both .0 .facet) in
+      sym (facet-size (k / 8) (k % 8) kf)
+      ∙ ap dimensionOf (sym (same-size _ _ (facet-once (h / 8) (h % 8) hf) (facet-once (k / 8) (k % 8) kf) (both .1)))
+      ∙ facet-size (h / 8) (h % 8) hf

@@ -10,6 +10,7 @@ pub mod Order
 pub mod Keep
 pub mod Counts
 pub mod Alike
+pub mod Sized
 pub mod Cyclic
 pub mod Every
 pub mod Through

@@ -13,6 +13,7 @@ use Rattle.map.specs.Cells.{Body, Map, live, cellsOf, neighbours}
 use Rattle.map.specs.Siblings.{sharers, sibling, cycle, border}
 use Rattle.map.specs.Stars.{holders, star, anchors}
 use Rattle.numbers.specs.Sizes.{mostAround, mostCapacity}
+use Rattle.shapes.specs.Sizes.{mostCorners}
 
 pub record Answer : Type 0 where
   pub refusal : ℕ
@@ -66,10 +67,10 @@ halfChecks m c f = cellChecks m c ++ ((13 when leb (facetCount (m .at c .code)) 
 unfoldable pub starChecks : Map → ℕ → ℕ → List Check
 starChecks m d v = (6 when ltb d 1 || ltb 3 d) ∷ (8 when leb (m .caps .marks) v) ∷ []
 
--- of a set of marks: 7, 8, 9
+-- of a set of marks: 7, 8, 9; "Lookup takes sets of up to 4 marks.": as many as a facet has
 unfoldable pub setChecks : Map → List ℕ → List Check
 setChecks m set =
-    (7 when ltb (length set) 1 || ltb 3 (length set)) ∷ (8 when any (leb (m .caps .marks)) set) ∷ (9 when repeats set) ∷ []
+    (7 when ltb (length set) 1 || ltb mostCorners (length set)) ∷ (8 when any (leb (m .caps .marks)) set) ∷ (9 when repeats set) ∷ []
 
 -- of a type: 6
 unfoldable pub typeChecks : ℕ → List Check

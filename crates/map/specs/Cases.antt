@@ -1,7 +1,7 @@
 -- "Twelve cases to prove": a row has the edits that make the mesh, a question, and the outline's answer.
 use mathlib.Core.Bool.{Bool, true, false, not, _&&_}
 use mathlib.Core.List.{List, [], _∷_, _++_}
-use Prim.Native.Nat.{ℕ, zero, suc, _*_}
+use Prim.Native.Nat.{ℕ, zero, suc, _+_, _*_}
 use Rattle.lists.specs.Lists.{all, same, select}
 use Rattle.numbers.specs.Sizes.{mostAround, capacities}
 use Rattle.map.specs.Cells.{bodyOf, Map}
@@ -50,7 +50,7 @@ infix 20 _asked_gives_
 unfoldable pub _asked_gives_ : List Edit → Question → List ℕ → CaseRow
 edits asked q gives l = record { edits = edits; question = q; answer = l }
 
--- the meshes of the cases, of 5 marks and 4 cells
+-- the meshes of the cases, of 12 marks and 4 cells
 unfoldable pub bar : ℕ → ℕ → ℕ → Edit
 bar c a b = Insert c (bodyOf 1 (a ∷ b ∷ []))
 
@@ -92,6 +92,15 @@ p12 = tri 0 0 1 2 ∷ tetra 1 0 1 2 3 ∷ []
 
 unfoldable pub twoQuads : List Edit
 twoQuads = quad 0 0 1 2 3 ∷ quad 1 0 4 1 2 ∷ []
+
+unfoldable pub brick : ℕ → ℕ → Edit
+brick c v = Insert c (bodyOf 7 (v ∷ (1 + v) ∷ (2 + v) ∷ (3 + v) ∷ (4 + v) ∷ (5 + v) ∷ (6 + v) ∷ (7 + v) ∷ []))
+
+unfoldable pub bricks : List Edit
+bricks = brick 0 0 ∷ brick 1 4 ∷ []
+
+unfoldable pub solids : List Edit
+solids = brick 0 0 ∷ Insert 1 (bodyOf 6 (1 ∷ 2 ∷ 8 ∷ 5 ∷ 6 ∷ 9 ∷ [])) ∷ Insert 2 (bodyOf 5 (4 ∷ 6 ∷ 5 ∷ 7 ∷ 8 ∷ [])) ∷ quad 3 4 5 6 7 ∷ []
 
 unfoldable pub rows : List CaseRow
 rows =
@@ -136,11 +145,20 @@ rows =
     ∷ (twoQuads asked Sibling 0 1 gives 0 ∷ 10 ∷ [])
     ∷ (twoQuads asked Anchors 2 0 gives 0 ∷ 0 ∷ 8 ∷ [])
     ∷ (twoQuads asked Anchors 2 1 gives 0 ∷ 0 ∷ [])
+    -- request 1: brick 1 on brick 0: 5 and 8 are siblings; the anchor of mark 4 is 1; a brick has six facets
+    ∷ (bricks asked Sibling 0 5 gives 0 ∷ 8 ∷ [])
+    ∷ (bricks asked Sibling 1 0 gives 0 ∷ 5 ∷ [])
+    ∷ (bricks asked Anchors 3 4 gives 0 ∷ 1 ∷ [])
+    ∷ (bricks asked Sibling 0 6 gives 13 ∷ [])
+    -- a brick with wedge 1 at its side, 2 and 8, and pyramid 2 on its top in crossed order, 5 and 16; quad 3 there is no sibling of a face
+    ∷ (solids asked Inner gives 0 ∷ 2 ∷ 5 ∷ 8 ∷ 16 ∷ [])
+    -- "6 covers codes above 7"
+    ∷ ([] asked Try (Insert 0 (bodyOf 8 [])) gives 6 ∷ [])
     ∷ []
 
 -- a row holds: the mesh of its edits answers as it says
 unfoldable pub holdsRow : CaseRow → Bool
-holdsRow r = same (ask (history (empty (capacities 5 4)) (r .edits)) (r .question)) (r .answer)
+holdsRow r = same (ask (history (empty (capacities 12 4)) (r .edits)) (r .question)) (r .answer)
 
 unfoldable pub hold : List CaseRow → Bool
 hold l = all holdsRow l

@@ -12,7 +12,7 @@ use Rattle.lists.specs.Lists.{has, any, all, repeats, sameSet}
 use Rattle.lists.proofs.Bools.{clash, and-left, and-right, or-cases}
 use Rattle.lists.proofs.Members.{all-at, all-get}
 use Rattle.lists.proofs.Below.{allBelow, below-at}
-use Rattle.shapes.specs.Shapes.{Shape, noShape, bar, tri, quad, tetra, shapes, shape}
+use Rattle.shapes.specs.Shapes.{Shape, noShape, shapes, shape}
 use Rattle.shapes.specs.Facts.{Facts, facetAt, dimensionOf}
 use Rattle.shapes.specs.Sizes.{mostFacets, mostMarks, mostCorners}
 
@@ -48,7 +48,7 @@ test : Shape → Bool
 test s = all (λ b. b) (tests s)
 
 table-test : all test shapes ≡ true
-unfolding test tests facetTest facetTests sized cornered apart shapes noShape bar tri quad tetra all any has repeats sameSet allBelow dimensionOf
+unfolding test tests facetTest facetTests sized cornered apart shapes noShape all any has repeats sameSet allBelow dimensionOf
 table-test = refl
 
 empty-test : test noShape ≡ true

@@ -9,7 +9,7 @@ use borrow.Author.Tests.{eqb-true}
 use lib.Dec.{eqb, ltb}
 use lib.ListN.{getD, length, replicate, List·getD-eq-default}
 use Rattle.lists.proofs.Below.{allBelow, below-at}
-use Rattle.shapes.specs.Shapes.{Shape, noShape, bar, tri, quad, tetra, shapes, shape, places}
+use Rattle.shapes.specs.Shapes.{Shape, noShape, shapes, shape, places}
 use Rattle.shapes.specs.Table.{padded, facetRow, typeRow, table, entry}
 use Rattle.shapes.specs.Facts.{facetAt}
 use Rattle.shapes.proofs.Facts.{facts}
@@ -24,7 +24,7 @@ tested : ℕ → ℕ → ℕ → Bool
 tested t f k = eqb (entry table t f k) (expected t f k)
 
 table-tested : allBelow codes (λ t. allBelow mostFacets (λ f. allBelow columns (tested t f))) ≡ true
-unfolding tested expected entry table typeRow facetRow padded allBelow shapes shape places noShape bar tri quad tetra
+unfolding tested expected entry table typeRow facetRow padded allBelow shapes shape places noShape
 table-tested = refl
 
 -- no facet outside the table

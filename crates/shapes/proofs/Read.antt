@@ -7,7 +7,7 @@ use native.Mathlib.Omega.{arith}
 use borrow.Author.Tests.{lt-ltb, le-ltb}
 use lib.Dec.{ltb}
 use lib.ListN.{getD, length, List·getD-map, List·getD-eq-default}
-use Rattle.shapes.specs.Shapes.{Shape, noShape, bar, tri, quad, tetra, shapes, shape}
+use Rattle.shapes.specs.Shapes.{Shape, noShape, shapes, shape}
 use Rattle.shapes.specs.Table.{entry}
 use Rattle.shapes.specs.Sizes.{mostFacets, columns, codes}
 

@@ -11,7 +11,7 @@ use Rattle.lists.specs.Lists.{all}
 use Rattle.lists.proofs.Bools.{or-cases}
 use Rattle.lists.proofs.Members.{all-get}
 use native.Mathlib.Decide.{ℕ-discrete, decLt}
-use Rattle.shapes.specs.Shapes.{Shape, noShape, bar, tri, quad, tetra, shapes, shape}
+use Rattle.shapes.specs.Shapes.{Shape, noShape, shapes, shape}
 use Rattle.shapes.specs.Sizes.{mostCode}
 use Rattle.shapes.proofs.Read.{no-code}
 
@@ -29,7 +29,7 @@ someMarks : Shape → Bool
 someMarks s = eqb (s .dimension) 0 || ltb 0 (s .marks)
 
 some-tested : all someMarks shapes ≡ true
-unfolding someMarks all shapes noShape bar tri quad tetra
+unfolding someMarks all shapes noShape
 some-tested = refl
 
 no-marks-tested : someMarks noShape ≡ true

@@ -22,7 +22,7 @@ columns = 5
 
 -- the codes of types lie below this
 abbrev pub codes : ℕ
-codes = 5
+codes = 8
 
 -- no type has a higher code, with all that the layout has room for
 abbrev pub mostCode : ℕ

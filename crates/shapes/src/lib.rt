@@ -10,7 +10,7 @@ ghost use Rattle.shapes.specs.Shapes.{shape, facetCount};
 ghost use Rattle.shapes.specs.Table.{table, entry};
 
 // How many codes the table has, 0 for no type among them.
-pub const CODES: u32 = 5;
+pub const CODES: u32 = 8;
 
 // No type has a higher code.
 pub const MOST_CODE: u32 = 7;
@@ -31,11 +31,11 @@ const COLUMNS: u32 = 5;
 // For each type its facets, each as the count of its corners and their places, padded with 0.
 pub type FacetTable = [[[u8; COLUMNS as usize]; MOST_FACETS as usize]; CODES as usize];
 
-const DIMENSIONS: [u8; CODES as usize] = [0, 1, 2, 2, 3];
+const DIMENSIONS: [u8; CODES as usize] = [0, 1, 2, 2, 3, 3, 3, 3];
 
-const MARKS: [u8; CODES as usize] = [0, 2, 3, 4, 4];
+const MARKS: [u8; CODES as usize] = [0, 2, 3, 4, 4, 5, 6, 8];
 
-const FACETS: [u8; CODES as usize] = [0, 2, 3, 4, 4];
+const FACETS: [u8; CODES as usize] = [0, 2, 3, 4, 4, 5, 5, 6];
 
 const PLACES: FacetTable = [
     [
@@ -77,6 +77,30 @@ const PLACES: FacetTable = [
         [3, 2, 0, 3, 0],
         [0, 0, 0, 0, 0],
         [0, 0, 0, 0, 0],
+    ],
+    [
+        [4, 0, 3, 2, 1],
+        [3, 0, 1, 4, 0],
+        [3, 1, 2, 4, 0],
+        [3, 2, 3, 4, 0],
+        [3, 3, 0, 4, 0],
+        [0, 0, 0, 0, 0],
+    ],
+    [
+        [4, 0, 1, 4, 3],
+        [4, 1, 2, 5, 4],
+        [4, 2, 0, 3, 5],
+        [3, 0, 2, 1, 0],
+        [3, 3, 4, 5, 0],
+        [0, 0, 0, 0, 0],
+    ],
+    [
+        [4, 0, 3, 2, 1],
+        [4, 0, 1, 5, 4],
+        [4, 1, 2, 6, 5],
+        [4, 2, 3, 7, 6],
+        [4, 0, 4, 7, 3],
+        [4, 4, 5, 6, 7],
     ],
 ];
 

@@ -18,7 +18,7 @@ pub fn answers(memory: &Memory) -> Vec<String> {
     for set in sets(mesh.marks + 1) {
         lines.push(format!("lookup {set:?} {:?}", memory.lookup(&set)));
     }
-    for code in 0..=5 {
+    for code in 0..=8 {
         let cells = memory.cells_of_type(code, PLENTY);
         let count = memory.count_of_type(code);
         lines.push(format!("type {code} {cells:?} {count:?}"));
@@ -31,7 +31,7 @@ fn about_cell(memory: &Memory, cell: u32, lines: &mut Vec<String>) {
     let marks = memory.marks_of(cell);
     let neighbours = memory.neighbours(cell, PLENTY);
     lines.push(format!("cell {cell} {code:?} {marks:?} {neighbours:?}"));
-    for facet in 0..=4 {
+    for facet in 0..=6 {
         let sibling = memory.sibling(cell, facet);
         let border = memory.border(cell, facet);
         let cycle = memory.cycle(cell, facet, PLENTY);
@@ -52,14 +52,17 @@ fn about_mark(memory: &Memory, mark: u32, lines: &mut Vec<String>) {
     }
 }
 
-/// All sets of 1 to 3 marks below the bound, each as an ascending list.
+/// All sets of 1 to 4 marks below the bound, each as an ascending list.
 fn sets(bound: u32) -> Vec<Vec<u32>> {
     let mut sets = Vec::new();
     for a in 0..bound {
         sets.push(vec![a]);
         for b in a + 1..bound {
             sets.push(vec![a, b]);
-            sets.extend((b + 1..bound).map(|c| vec![a, b, c]));
+            for c in b + 1..bound {
+                sets.push(vec![a, b, c]);
+                sets.extend((c + 1..bound).map(|d| vec![a, b, c, d]));
+            }
         }
     }
     sets

@@ -6,6 +6,9 @@ pub const BAR: u32 = 1;
 pub const TRI: u32 = 2;
 pub const QUAD: u32 = 3;
 pub const TETRA: u32 = 4;
+pub const PYRA: u32 = 5;
+pub const PENTA: u32 = 6;
+pub const HEXA: u32 = 7;
 
 /// A list room that no list of these maps outgrows.
 pub const PLENTY: usize = 1000;

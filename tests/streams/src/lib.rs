@@ -1,3 +1,4 @@
 //! What runs by chance share.
 
 pub mod chance;
+pub mod lattice;

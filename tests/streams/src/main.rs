@@ -3,7 +3,7 @@
 //!
 //! The map is drawn in phases, each with a map of its own kind: few marks and
 //! many cells (edges with many sharers, sheets that touch in a mark), solids,
-//! bars, all of them mixed; a mark with its 128th and 129th cell; a map of 384
+//! bars, all of them mixed; cubes and what they are cut into; a mark with its 128th and 129th cell; a map of 384
 //! cells and one more. Cells are removed and come back throughout.
 
 mod frames;
@@ -12,6 +12,7 @@ use frames::{malformed, Frame};
 use std::io::{self, BufWriter, Write};
 use std::process::ExitCode;
 use streams::chance::Chance;
+use streams::lattice;
 
 const USAGE: &str = "usage: streams SEED FRAMES [small | grid]";
 const MOST: u32 = 384;
@@ -27,6 +28,8 @@ struct Phase {
     /// The part of inserts among the edits, of 16.
     inserts: u32,
     frames: u32,
+    /// Cells are mostly drawn from so many cubes on a side, if any.
+    side: u32,
 }
 
 fn main() -> ExitCode {
@@ -58,9 +61,9 @@ fn stream(seed: u64, count: u64, small: bool, out: &mut impl Write) -> io::Resul
     let mut left = count;
     while left > 0 {
         let kind = if small {
-            chance.below(5)
+            chance.below(6)
         } else {
-            chance.below(9)
+            chance.below(11)
         };
         let phase = draw_phase(&mut chance, kind);
         left -= 1;
@@ -125,7 +128,8 @@ fn grid_triangle(cell: u32, wide: u32) -> Vec<u32> {
 }
 
 fn draw_phase(chance: &mut Chance, kind: u32) -> Phase {
-    const ALL: &[u8] = &[1, 2, 3, 4];
+    const ALL: &[u8] = &[1, 2, 3, 4, 5, 6, 7];
+    const SOLIDS: &[u8] = &[4, 5, 6, 7];
     let phase = |marks, cells, pool, codes, inserts, frames| Phase {
         marks,
         cells,
@@ -133,16 +137,23 @@ fn draw_phase(chance: &mut Chance, kind: u32) -> Phase {
         codes,
         inserts,
         frames,
+        side: 0,
+    };
+    let cubes = |marks, cells, frames| Phase {
+        side: lattice::side(marks),
+        ..phase(marks, cells, marks, ALL, 10, frames)
     };
     match kind {
         0 => phase(6, 12, 6, &[2], 11, 300),
         1 => phase(9, 30, 9, &[2, 3], 10, 500),
-        2 => phase(8, 20, 8, &[4], 10, 400),
+        2 => phase(10, 20, 10, SOLIDS, 10, 400),
         3 => phase(12, 40, 10, ALL, 10, 900),
         4 => phase(40, 60, 40, ALL, 12, 600),
-        5 => phase(MOST, MOST, 200, &[1], 16, 170),
-        6 => phase(MOST, MOST, 30, ALL, 15, 1500),
-        7 => phase(MOST, MOST, MOST, ALL, 14, 2500),
+        5 => cubes(28, 40, 600),
+        6 => phase(MOST, MOST, 200, &[1], 16, 170),
+        7 => phase(MOST, MOST, 30, ALL, 15, 1500),
+        8 => phase(MOST, MOST, MOST, ALL, 14, 2500),
+        9 => cubes(MOST, MOST, 2500),
         _ => phase(chance.below(5), chance.below(5), 4, ALL, 8, 60),
     }
 }
@@ -159,7 +170,7 @@ fn format_frame(chance: &mut Chance, phase: &Phase) -> String {
 }
 
 fn draw_line(chance: &mut Chance, phase: &Phase, kind: u32, turn: u32) -> Vec<u8> {
-    if kind == 5 && turn < 150 {
+    if kind == 6 && turn < 150 {
         return full_mark(chance, turn);
     }
     let frame = match chance.below(100) {
@@ -206,11 +217,16 @@ fn draw_edit(chance: &mut Chance, phase: &Phase) -> Frame {
     if chance.below(16) >= phase.inserts {
         return Frame::Remove { cell };
     }
+    if phase.side > 0 && !chance.one_in(8) {
+        let (code, marks) = lattice::draw(chance, phase.side);
+        let code = code as u8;
+        return Frame::Insert { cell, code, marks };
+    }
     let code = match chance.below(60) {
         0 => chance.below(256) as u8,
         _ => phase.codes[chance.below(phase.codes.len() as u32) as usize],
     };
-    let right = [0, 2, 3, 4, 4].get(usize::from(code)).copied();
+    let right = [0, 2, 3, 4, 4, 5, 6, 8].get(usize::from(code)).copied();
     let count = match chance.below(40) {
         0 => chance.below(14),
         _ => right.unwrap_or(3),
@@ -253,7 +269,7 @@ fn draw_dimension(chance: &mut Chance) -> u8 {
 fn draw_facet(chance: &mut Chance) -> u8 {
     match chance.below(30) {
         0 => chance.below(256) as u8,
-        _ => chance.below(5) as u8,
+        _ => chance.below(7) as u8,
     }
 }
 

@@ -8,7 +8,7 @@ abbrev Inv-loop : tie.InvT-loop
 Inv-loop w p c f₀ f = Unit {0}
 
 abbrev μ-loop : tie.MeasureT-loop
-μ-loop w p c f₀ f = 5 - f
+μ-loop w p c f₀ f = 7 - f
 
 pub about-halves-spec : {M : Type 1} → statement M
 about-halves-spec =

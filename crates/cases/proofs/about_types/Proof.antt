@@ -8,7 +8,7 @@ abbrev Inv-loop : tie.InvT-loop
 Inv-loop w p t₀ t = Unit {0}
 
 abbrev μ-loop : tie.MeasureT-loop
-μ-loop w p t₀ t = 6 - t
+μ-loop w p t₀ t = 9 - t
 
 pub about-types-spec : {M : Type 1} → statement M
 about-types-spec =

@@ -8,7 +8,7 @@ abbrev Inv-loop : tie.InvT-loop
 Inv-loop p₀ p = Unit {0}
 
 abbrev μ-loop : tie.MeasureT-loop
-μ-loop p₀ p = 20 - p
+μ-loop p₀ p = 21 - p
 
 pub main-spec : {M : Type 1} → statement M
 main-spec =
@@ -21,6 +21,10 @@ main-spec =
     (λ c. search needs)
     (λ c. search needs)
     (λ c. search needs)
+    (λ c κs. search needs)
+    (λ c κs. search needs)
+    (λ c κs. search needs)
+    (λ c κs. search needs)
     (λ c κs. search needs)
     (λ c κs. search needs)
     (λ c κs. search needs)

@@ -35,4 +35,4 @@ returns-5 c =
 pub check-set-spec : {M : Type 1} → statement M
 check-set-spec =
     tie.close
-    (tie.spec returns returns-2 (λ c κs. search needs) returns-3 (λ c κs. search needs) returns-4 returns-5)
+    (tie.spec returns (λ c. search needs) returns-2 (λ c κs. search needs) returns-3 (λ c κs. search needs) returns-4 returns-5)

@@ -8,7 +8,7 @@ abbrev Inv-loop : tie.InvT-loop
 Inv-loop rows t₀ t = Unit {0}
 
 abbrev μ-loop : tie.MeasureT-loop
-μ-loop rows t₀ t = 5 - t
+μ-loop rows t₀ t = 8 - t
 
 pub main-spec : {M : Type 1} → statement M
 main-spec =

@@ -1,14 +1,14 @@
 -- `shapes::mark_count` meets its contract.
 use mathlib.Core.Path.{sym, ap, _∙_}
 use lib.ListN.{length}
-use Rattle.shapes.specs.Shapes.{Shape, noShape, bar, tri, quad, tetra, shapes, shape, facetCount}
+use Rattle.shapes.specs.Shapes.{Shape, noShape, shapes, shape, facetCount}
 use Rattle.shapes.proofs.Read.{by-code, no-code}
 use borrow.Author.Needs.{needs}
 use Rattle.shapes.proofs.mark_count.Statement.{statement}
 use Rattle.shapes.proofs.mark_count.Tie as tie
 
 returns : tie.Need-returns
-unfolding noShape bar tri quad tetra shapes
+unfolding noShape shapes
 returns c = c .wide .ensures ∙ by-code (λ (s : Shape). s .marks) (c .before .before .args .t)
 
 returns-2 : tie.Need-returns-2
