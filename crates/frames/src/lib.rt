@@ -34,25 +34,19 @@ pub enum Frame {
 pub fn digit(b: u8) -> u32
     ensures { λ r. ⌜ r ≡ digitOf b ⌝ }
 {
-    match b {
-        b'0' => 0,
-        b'1' => 1,
-        b'2' => 2,
-        b'3' => 3,
-        b'4' => 4,
-        b'5' => 5,
-        b'6' => 6,
-        b'7' => 7,
-        b'8' => 8,
-        b'9' => 9,
-        b'a' => 10,
-        b'b' => 11,
-        b'c' => 12,
-        b'd' => 13,
-        b'e' => 14,
-        b'f' => 15,
-        _ => 16,
+    if b < b'0' {
+        return 16;
     }
+    if b <= b'9' {
+        return (b - b'0') as u32;
+    }
+    if b < b'a' {
+        return 16;
+    }
+    if b <= b'f' {
+        return 10 + (b - b'a') as u32;
+    }
+    16
 }
 
 // Too many digits, an odd count of them, or another character.

@@ -1,95 +1,56 @@
 -- `frames::digit` meets its contract.
-use Rattle.frames.specs.Frames.{digits}
-use Rattle.frames.proofs.Digits.{is-digit, no-digit}
+use mathlib.Core.Path.{_≡_, refl}
+use Prim.Native.Nat.{ℕ, _+_, _-_, _<_, _≤_}
+use native.Mathlib.Omega.{arith}
 use borrow.Author.Needs.{needs}
+use borrow.Author.Tests.{eqb-true}
+use lib.Dec.{eqb}
+use lib.ListN.{getD}
+use Rattle.lists.proofs.Below.{allBelow, below-at}
+use Rattle.frames.specs.Frames.{digits, digitOf}
+use Rattle.frames.proofs.Digits.{is-digit, no-digit}
 use Rattle.frames.proofs.digit.Statement.{statement}
 use Rattle.frames.proofs.digit.Tie as tie
 
+-- the digits lie side by side in two rows, from '0' and from 'a' on
+decimal : (k : ℕ) → k < 10 → getD digits k 0 ≡ 48 + k
+unfolding allBelow digits
+decimal k h = eqb-true _ _ (below-at 10 (λ k. eqb (getD digits k 0) (48 + k)) refl k h)
+
+letter : (k : ℕ) → k < 6 → getD digits (10 + k) 0 ≡ 97 + k
+unfolding allBelow digits
+letter k h = eqb-true _ _ (below-at 6 (λ k. eqb (getD digits (10 + k) 0) (97 + k)) refl k h)
+
+-- a byte in one of them is that digit
+in-decimals : (b k : ℕ) → k ≡ b - 48 → 48 ≤ b → b ≤ 57 → k ≡ digitOf b
+in-decimals b k e low high = is-digit k b (omega arith) (omega (arith, decimal k (omega arith)))
+
+in-letters : (b k : ℕ) → k ≡ 10 + (b - 97) → 97 ≤ b → b ≤ 102 → k ≡ digitOf b
+in-letters b k e low high = is-digit k b (omega arith) (rw e (omega (arith, letter (b - 97) (omega arith))))
+
+-- and a byte in neither is none
+in-neither : (b : ℕ) → (48 ≤ b → b ≤ 57 → ⊥) → (97 ≤ b → b ≤ 102 → ⊥) → 16 ≡ digitOf b
+in-neither b f g =
+    no-digit b (λ e. f (omega arith) (omega arith)) (λ e. f (omega arith) (omega arith)) (λ e. f (omega arith) (omega arith)) (λ e. f (omega arith) (omega arith)) (λ e. f (omega arith) (omega arith))
+    (λ e. f (omega arith) (omega arith)) (λ e. f (omega arith) (omega arith)) (λ e. f (omega arith) (omega arith)) (λ e. f (omega arith) (omega arith)) (λ e. f (omega arith) (omega arith))
+    (λ e. g (omega arith) (omega arith)) (λ e. g (omega arith) (omega arith)) (λ e. g (omega arith) (omega arith)) (λ e. g (omega arith) (omega arith)) (λ e. g (omega arith) (omega arith)) (λ e. g (omega arith) (omega arith))
+
 returns : tie.Need-returns
-unfolding digits
-returns c = is-digit 0 _ (search needs) (c .match .keys1)
+returns c = in-neither _ (λ low high. omega arith) (λ low high. omega arith)
 
 returns-2 : tie.Need-returns-2
-unfolding digits
-returns-2 c = is-digit 1 _ (search needs) (c .match .keys2)
+returns-2 c = in-decimals _ _ (omega arith) (omega arith) (omega arith)
 
 returns-3 : tie.Need-returns-3
-unfolding digits
-returns-3 c = is-digit 2 _ (search needs) (c .match .keys3)
+returns-3 c = in-neither _ (λ low high. omega arith) (λ low high. omega arith)
 
 returns-4 : tie.Need-returns-4
-unfolding digits
-returns-4 c = is-digit 3 _ (search needs) (c .match .keys4)
+returns-4 c = in-letters _ _ (omega arith) (omega arith) (omega arith)
 
 returns-5 : tie.Need-returns-5
-unfolding digits
-returns-5 c = is-digit 4 _ (search needs) (c .match .keys5)
-
-returns-6 : tie.Need-returns-6
-unfolding digits
-returns-6 c = is-digit 5 _ (search needs) (c .match .keys6)
-
-returns-7 : tie.Need-returns-7
-unfolding digits
-returns-7 c = is-digit 6 _ (search needs) (c .match .keys7)
-
-returns-8 : tie.Need-returns-8
-unfolding digits
-returns-8 c = is-digit 7 _ (search needs) (c .match .keys8)
-
-returns-9 : tie.Need-returns-9
-unfolding digits
-returns-9 c = is-digit 8 _ (search needs) (c .match .keys9)
-
-returns-10 : tie.Need-returns-10
-unfolding digits
-returns-10 c = is-digit 9 _ (search needs) (c .match .keys10)
-
-returns-11 : tie.Need-returns-11
-unfolding digits
-returns-11 c = is-digit 10 _ (search needs) (c .match .keys11)
-
-returns-12 : tie.Need-returns-12
-unfolding digits
-returns-12 c = is-digit 11 _ (search needs) (c .match .keys12)
-
-returns-13 : tie.Need-returns-13
-unfolding digits
-returns-13 c = is-digit 12 _ (search needs) (c .match .keys13)
-
-returns-14 : tie.Need-returns-14
-unfolding digits
-returns-14 c = is-digit 13 _ (search needs) (c .match .keys14)
-
-returns-15 : tie.Need-returns-15
-unfolding digits
-returns-15 c = is-digit 14 _ (search needs) (c .match .keys15)
-
-returns-16 : tie.Need-returns-16
-unfolding digits
-returns-16 c = is-digit 15 _ (search needs) (c .match .keys16)
-
-returns-17 : tie.Need-returns-17
-returns-17 c = no-digit _ (c .match .rest .0 .0 .0 .0 .0 .0 .0 .0 .0 .0 .0 .0 .0 .0 .0 .1) (c .match .rest .0 .0 .0 .0 .0 .0 .0 .0 .0 .0 .0 .0 .0 .0 .1) (c .match .rest .0 .0 .0 .0 .0 .0 .0 .0 .0 .0 .0 .0 .0 .1) (c .match .rest .0 .0 .0 .0 .0 .0 .0 .0 .0 .0 .0 .0 .1) (c .match .rest .0 .0 .0 .0 .0 .0 .0 .0 .0 .0 .0 .1) (c .match .rest .0 .0 .0 .0 .0 .0 .0 .0 .0 .0 .1) (c .match .rest .0 .0 .0 .0 .0 .0 .0 .0 .0 .1) (c .match .rest .0 .0 .0 .0 .0 .0 .0 .0 .1) (c .match .rest .0 .0 .0 .0 .0 .0 .0 .1) (c .match .rest .0 .0 .0 .0 .0 .0 .1) (c .match .rest .0 .0 .0 .0 .0 .1) (c .match .rest .0 .0 .0 .0 .1) (c .match .rest .0 .0 .0 .1) (c .match .rest .0 .0 .1) (c .match .rest .0 .1) (c .match .rest .1)
+returns-5 c = in-neither _ (λ low high. omega arith) (λ low high. omega arith)
 
 pub digit-spec : {M : Type 1} → statement M
 digit-spec =
     tie.close
-    (tie.spec
-    returns
-    returns-2
-    returns-3
-    returns-4
-    returns-5
-    returns-6
-    returns-7
-    returns-8
-    returns-9
-    returns-10
-    returns-11
-    returns-12
-    returns-13
-    returns-14
-    returns-15
-    returns-16
-    returns-17)
+    (tie.spec returns (λ c. search needs) returns-2 returns-3 (λ c. search needs) (λ c. search needs) returns-4 returns-5)
