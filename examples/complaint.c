@@ -1,4 +1,5 @@
-/* A complaint, start to end, from C: a viaduct over a hillside, the cells around a mark, one removed, the cells again.
+/* A complaint, start to end, from C: a viaduct over a hillside, the cells around a mark, one removed, the cells again;
+ * and solids under the second edition.
  *
  *     cc -Iinclude examples/complaint.c libmesh_c.a -o complaint
  */
@@ -43,6 +44,25 @@ static void tell(uint32_t mark)
     }
 }
 
+/* under the second edition a face lies between two solids at most */
+static void harbour(void)
+{
+    static uint32_t solids[MK_ROOM(6, 4)];
+    const size_t room = MK_ROOM(6, 4);
+    uint32_t edition = 0;
+    must(mk_format_edition(solids, room, 6, 4, MK_SECOND_EDITION));
+    must(mk_insert(solids, room, 0, MK_TETRA_4, (const uint32_t[]){0, 1, 2, 3}, 4));
+    must(mk_insert(solids, room, 1, MK_TETRA_4, (const uint32_t[]){0, 2, 1, 4}, 4));
+    must(mk_edition(solids, room, &edition));
+    printf("edition %" PRIu32 ": ", edition);
+    uint8_t refusal = mk_insert(solids, room, 2, MK_TETRA_4, (const uint32_t[]){0, 1, 2, 5}, 4);
+    if (refusal == 0) {
+        printf("three solids on a face\n");
+    } else {
+        printf("a third solid is refused with %d\n", refusal);
+    }
+}
+
 int main(void)
 {
     must(mk_format(words, MK_ROOM(MARKS, CELLS), MARKS, CELLS));
@@ -63,5 +83,6 @@ int main(void)
     } else {
         printf("cell 5 is refused with %d\n", refusal);
     }
+    harbour();
     return 0;
 }

@@ -1,6 +1,7 @@
 #!/usr/bin/env python3
 """A complaint, start to end, from Python: a viaduct over a hillside, the cells
-around a mark, one removed, the cells again.
+around a mark, one removed, the cells again; and solids under the second
+edition.
 
 usage: complaint.py LIBRARY
 LIBRARY is the proved library as a shared library, as README.md makes it.
@@ -9,6 +10,7 @@ import ctypes
 import sys
 
 BAR, TRIANGLE, QUAD, TETRAHEDRON, PYRAMID, WEDGE, BRICK = 1, 2, 3, 4, 5, 6, 7
+FIRST_EDITION, SECOND_EDITION = 1, 2
 LONGEST_LIST = 128
 
 
@@ -23,10 +25,16 @@ class Refused(Exception):
 class Map:
     """Marks and cells in words of its own."""
 
-    def __init__(self, library, marks, cells):
+    def __init__(self, library, marks, cells, edition=FIRST_EDITION):
         self.calls = library
         self.words = (ctypes.c_uint32 * (16 + 8 * marks + 32 * cells))()
-        self._call("mk_format", ctypes.c_uint32(marks), ctypes.c_uint32(cells))
+        given = [ctypes.c_uint32(number) for number in (marks, cells, edition)]
+        self._call("mk_format_edition", *given)
+
+    def edition(self):
+        number = ctypes.c_uint32()
+        self._call("mk_edition", ctypes.byref(number))
+        return number.value
 
     def insert(self, cell, code, marks):
         list_ = (ctypes.c_uint32 * len(marks))(*marks)
@@ -89,6 +97,17 @@ def main():
         print("cell 5 stands")
     except Refused as refused:
         print(f"cell 5 is {refused}")
+
+    # under the second edition a face lies between two solids at most
+    harbour = Map(map_.calls, 6, 4, SECOND_EDITION)
+    harbour.insert(0, TETRAHEDRON, [0, 1, 2, 3])
+    harbour.insert(1, TETRAHEDRON, [0, 2, 1, 4])
+    print(f"edition {harbour.edition()}: ", end="")
+    try:
+        harbour.insert(2, TETRAHEDRON, [0, 1, 2, 5])
+        print("three solids on a face")
+    except Refused as refused:
+        print(f"a third solid is {refused}")
 
 
 if __name__ == "__main__":

@@ -7,7 +7,7 @@
  *
  * Every call but mk_whole answers a refusal number: 0 if it is accepted, else why it is refused
  * (enum mk_refusal). Values come through pointers, and only where the call is accepted: a refused
- * call leaves everything that was lent as it was. The one exception is mk_build.
+ * call leaves everything that was lent as it was. The one exception is a build.
  *
  * A list is a pointer and a count of 32-bit words. A list's pointer and the pointer of a single
  * number are aligned to 4 bytes and not null; that of an empty list may be anything. What a call
@@ -16,8 +16,9 @@
  *
  * Any memory may be lent as a mesh. On words that are no well-formed mesh a call is safe and
  * returns, and writes within the room alone; what it answers is promised only for
- *   - memory under 16 words, or whose head gives no capacities or ones whose room does not fit:
- *     refused with MK_NOT_MESH, save by mk_format and mk_build, which ask for no mesh;
+ *   - memory under 16 words, or whose head gives no capacities, ones whose room does not fit or an
+ *     edition other than 1 and 2: refused with MK_NOT_MESH, save by formats and builds, which ask for
+ *     no mesh;
  *   - memory that mk_whole says yes to, and so all that these calls leave, from a format or build on.
  */
 #ifndef MENGKILOH_H
@@ -38,7 +39,7 @@ enum mk_refusal {
     MK_CELL_OUTSIDE = 3,   /* a cell number is not below the capacity */
     MK_CELL_LIVE = 4,      /* insert: the number is live */
     MK_CELL_NOT_LIVE = 5,  /* the cell is not live */
-    MK_TYPE_UNKNOWN = 6,   /* type code not in the table, or dimension not 1 to 3 */
+    MK_TYPE_UNKNOWN = 6,   /* type code not in the table, dimension not 1 to 3, or edition not 1 or 2 */
     MK_COUNT_WRONG = 7,    /* wrong count of marks for the type or the lookup, or a build record cut short */
     MK_MARK_OUTSIDE = 8,   /* a mark is not below the capacity */
     MK_MARK_TWICE = 9,     /* a mark occurs twice */
@@ -46,7 +47,14 @@ enum mk_refusal {
     MK_MARK_FULL = 11,     /* one of the marks stands in 128 live cells already */
     MK_OUTPUT_SHORT = 12,  /* output buffer shorter than the list */
     MK_FACET_OUTSIDE = 13, /* local facet not below the type's count */
-    MK_NOT_MESH = 14       /* memory is not a mesh */
+    MK_NOT_MESH = 14,      /* memory is not a mesh */
+    MK_FACE_FULL = 19      /* insert under edition 2: a third solid on a face */
+};
+
+/* The editions of the sheet rules. Under the second a face lies between two solids at most. */
+enum mk_edition_number {
+    MK_FIRST_EDITION = 1,
+    MK_SECOND_EDITION = 2
 };
 
 /* The types: code, dimension, marks, facets, and the facets by their corner places. */
@@ -69,24 +77,42 @@ enum mk_code {
 #define MK_HALF_FACET(half) ((uint32_t)(half) % (uint32_t)8)
 
 /*
- * Format: a mesh of these capacities with no live cell. Refused with 1, 2. The first
+ * Format: a mesh of these capacities with no live cell, under edition 1. Refused with 1, 2. The first
  * MK_ROOM(marks, cells) words are written, whatever they held; the others stay as they were.
  */
 uint8_t mk_format(uint32_t *mesh, size_t words, uint32_t marks, uint32_t cells);
 
 /*
- * Build: format, then the records inserted in order. A record is a cell number, a type code, then
- * that type's marks; count is the count of words of all records. Refused with 1, 2, and at a record
- * with 7 for a missing number or code, then 3, 4, 6, 7, 8, 9, 10, 11. place is written on a refusal
- * only: the place of the refused record, from 0. Refusals 1 and 2 come with place 0 and leave the
+ * Format under an edition: as mk_format, with the edition kept in the mesh. Refused with 6, 1, 2.
+ */
+uint8_t mk_format_edition(uint32_t *mesh, size_t words, uint32_t marks, uint32_t cells, uint32_t edition);
+
+/*
+ * Build: format under edition 1, then the records inserted in order. A record is a cell number, a type
+ * code, then that type's marks; count is the count of words of all records. Refused with 1, 2, and at a
+ * record with 7 for a missing number or code, then 3, 4, 6, 7, 8, 9, 10, 11. place is written on a
+ * refusal only: the place of the refused record, from 0. Refusals 1 and 2 come with place 0 and leave the
  * mesh as it was; a refused record leaves a formatted mesh with no live cell.
  */
 uint8_t mk_build(uint32_t *mesh, size_t words, uint32_t marks, uint32_t cells, const uint32_t *records,
                  size_t count, uint32_t *place);
 
 /*
+ * Build under an edition: as mk_build, with the edition kept in the mesh. Refused with 6, 1, 2, which
+ * come with place 0 and leave the mesh as it was, and at a record as mk_build or, under edition 2, with
+ * 19, after 10 and before 11.
+ */
+uint8_t mk_build_edition(uint32_t *mesh, size_t words, uint32_t marks, uint32_t cells, uint32_t edition,
+                         const uint32_t *records, size_t count, uint32_t *place);
+
+/*
+ * Edition: the edition that the mesh was formatted or built under. Refused with 14.
+ */
+uint8_t mk_edition(const uint32_t *mesh, size_t words, uint32_t *edition);
+
+/*
  * Insert: a cell of the caller's number, of a type code, on count marks. Refused with 14, 3, 4, 6, 7,
- * 8, 9, 10, 11.
+ * 8, 9, 10, under edition 2 with 19, 11.
  */
 uint8_t mk_insert(uint32_t *mesh, size_t words, uint32_t cell, uint32_t type, const uint32_t *marks,
                   size_t count);

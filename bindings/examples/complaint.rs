@@ -1,9 +1,9 @@
 //! A complaint, start to end: a viaduct over a hillside, the cells around a
-//! mark, one removed, the cells again.
+//! mark, one removed, the cells again; and solids under the second edition.
 //!
 //! `cargo run --example complaint`
 
-use mengkiloh::{Cell, Mark, Mesh, Refusal, Type};
+use mengkiloh::{Cell, Edition, Mark, Mesh, Refusal, Type};
 
 fn main() -> Result<(), Refusal> {
     // a hillside of two sheets that touch in mark 2, and over it a viaduct: a
@@ -23,6 +23,16 @@ fn main() -> Result<(), Refusal> {
     match map.insert(Cell(5), Type::Triangle, &[2, 0, 1].map(Mark)) {
         Ok(()) => println!("cell 5 stands"),
         Err(refusal) => println!("cell 5 is refused with {}", refusal.number()),
+    }
+
+    // under the second edition a face lies between two solids at most
+    let mut harbour = Mesh::with_room_edition(6, 4, Edition::Second)?;
+    harbour.insert(Cell(0), Type::Tetrahedron, &[0, 1, 2, 3].map(Mark))?;
+    harbour.insert(Cell(1), Type::Tetrahedron, &[0, 2, 1, 4].map(Mark))?;
+    print!("edition {}: ", harbour.edition()?);
+    match harbour.insert(Cell(2), Type::Tetrahedron, &[0, 1, 2, 5].map(Mark)) {
+        Ok(()) => println!("three solids on a face"),
+        Err(refusal) => println!("a third solid is refused with {}", refusal.number()),
     }
     Ok(())
 }

@@ -2,6 +2,13 @@
 
 extern "C" {
     pub fn mk_format(mesh: *mut u32, words: usize, marks: u32, cells: u32) -> u8;
+    pub fn mk_format_edition(
+        mesh: *mut u32,
+        words: usize,
+        marks: u32,
+        cells: u32,
+        edition: u32,
+    ) -> u8;
     pub fn mk_build(
         mesh: *mut u32,
         words: usize,
@@ -11,6 +18,17 @@ extern "C" {
         count: usize,
         place: *mut u32,
     ) -> u8;
+    pub fn mk_build_edition(
+        mesh: *mut u32,
+        words: usize,
+        marks: u32,
+        cells: u32,
+        edition: u32,
+        records: *const u32,
+        count: usize,
+        place: *mut u32,
+    ) -> u8;
+    pub fn mk_edition(mesh: *const u32, words: usize, edition: *mut u32) -> u8;
     pub fn mk_insert(
         mesh: *mut u32,
         words: usize,

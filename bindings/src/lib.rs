@@ -103,6 +103,46 @@ impl TryFrom<u32> for Type {
     }
 }
 
+/// The editions of the sheet rules. Under the second a face lies between two
+/// solids at most.
+///
+/// ```
+/// # use mengkiloh::{Cell, Edition, Mark, Mesh, Refusal, Type};
+/// # fn main() -> Result<(), mengkiloh::Refusal> {
+/// let mut map = Mesh::with_room_edition(6, 4, Edition::Second)?;
+/// map.insert(Cell(0), Type::Tetrahedron, &[0, 1, 2, 3].map(Mark))?;
+/// map.insert(Cell(1), Type::Tetrahedron, &[0, 2, 1, 4].map(Mark))?;
+/// let third = map.insert(Cell(2), Type::Tetrahedron, &[0, 1, 2, 5].map(Mark));
+/// assert_eq!(third, Err(Refusal::FaceFull));
+/// assert_eq!(Edition::try_from(map.edition()?), Ok(Edition::Second));
+/// # Ok(())
+/// # }
+/// ```
+#[derive(Clone, Copy, Debug, PartialEq, Eq, PartialOrd, Ord, Hash)]
+pub enum Edition {
+    First = 1,
+    Second = 2,
+}
+
+impl From<Edition> for u32 {
+    fn from(edition: Edition) -> u32 {
+        edition as u32
+    }
+}
+
+impl TryFrom<u32> for Edition {
+    type Error = u32;
+
+    /// The edition of a number; the number itself where there is none.
+    fn try_from(number: u32) -> Result<Edition, u32> {
+        match number {
+            1 => Ok(Edition::First),
+            2 => Ok(Edition::Second),
+            _ => Err(number),
+        }
+    }
+}
+
 /// A walker over one sibling cycle: its place.
 ///
 /// ```
@@ -153,21 +193,30 @@ pub struct Mesh<W> {
 }
 
 impl Mesh<Vec<u32>> {
-    /// A mesh of these capacities with no cell, in words of its own.
+    /// A mesh of these capacities with no cell, in words of its own, under
+    /// edition 1.
     pub fn with_room(marks: u32, cells: u32) -> Result<Mesh<Vec<u32>>, Refusal> {
+        Mesh::with_room_edition(marks, cells, Edition::First)
+    }
+
+    /// The same under an edition.
+    pub fn with_room_edition(
+        marks: u32,
+        cells: u32,
+        edition: impl Into<u32>,
+    ) -> Result<Mesh<Vec<u32>>, Refusal> {
         let mut mesh = Mesh::over(Vec::new());
         if marks <= MOST_CAPACITY && cells <= MOST_CAPACITY {
             mesh.words.resize(room(marks, cells), 0);
         }
-        mesh.format(marks, cells)?;
+        mesh.format_edition(marks, cells, edition)?;
         Ok(mesh)
     }
 }
 
 impl<W> Mesh<W> {
     /// The mesh in these words, whatever stands in them: words that are no mesh
-    /// are refused with 14 by each call but [`format`](Mesh::format) and
-    /// [`build`](Mesh::build).
+    /// are refused with 14 by each call but formats and builds.
     pub fn over(words: W) -> Mesh<W> {
         Mesh { words }
     }
@@ -179,7 +228,7 @@ impl<W> Mesh<W> {
 }
 
 impl<W: AsMut<[u32]>> Mesh<W> {
-    /// Makes the words a mesh of these capacities with no cell.
+    /// Makes the words a mesh of these capacities with no cell, under edition 1.
     pub fn format(&mut self, marks: u32, cells: u32) -> Result<(), Refusal> {
         let words = self.words.as_mut();
         // SAFETY: the pointer and the count are those of one slice, which is
@@ -189,8 +238,23 @@ impl<W: AsMut<[u32]>> Mesh<W> {
         })
     }
 
-    /// Formats and inserts each record in order. A build refused at a record
-    /// leaves a mesh with no cell.
+    /// The same under an edition, which the mesh keeps.
+    pub fn format_edition(
+        &mut self,
+        marks: u32,
+        cells: u32,
+        edition: impl Into<u32>,
+    ) -> Result<(), Refusal> {
+        let edition = edition.into();
+        let words = self.words.as_mut();
+        // SAFETY: as in `format`.
+        Refusal::from_number(unsafe {
+            calls::mk_format_edition(words.as_mut_ptr(), words.len(), marks, cells, edition)
+        })
+    }
+
+    /// Formats under edition 1 and inserts each record in order. A build refused
+    /// at a record leaves a mesh with no cell.
     pub fn build(&mut self, marks: u32, cells: u32, records: &Records) -> Result<(), BuildRefused> {
         let records = records.words();
         let words = self.words.as_mut();
@@ -203,6 +267,34 @@ impl<W: AsMut<[u32]>> Mesh<W> {
                 words.len(),
                 marks,
                 cells,
+                records.as_ptr(),
+                records.len(),
+                &mut record,
+            )
+        })
+        .map_err(|refusal| BuildRefused { refusal, record })
+    }
+
+    /// The same under an edition, which the mesh keeps.
+    pub fn build_edition(
+        &mut self,
+        marks: u32,
+        cells: u32,
+        edition: impl Into<u32>,
+        records: &Records,
+    ) -> Result<(), BuildRefused> {
+        let edition = edition.into();
+        let records = records.words();
+        let words = self.words.as_mut();
+        let mut record = 0;
+        // SAFETY: as in `build`.
+        Refusal::from_number(unsafe {
+            calls::mk_build_edition(
+                words.as_mut_ptr(),
+                words.len(),
+                marks,
+                cells,
+                edition,
                 records.as_ptr(),
                 records.len(),
                 &mut record,
@@ -248,10 +340,17 @@ impl<W: AsRef<[u32]>> Mesh<W> {
         self.words.as_ref()
     }
 
-    /// The code of a cell's type.
-    pub fn type_of(&self, cell: Cell) -> Result<u32, Refusal> {
+    /// The number of the edition that the mesh was formatted or built under.
+    pub fn edition(&self) -> Result<u32, Refusal> {
         // SAFETY: here and in the other queries, each pointer and count are
         // those of one slice, and what is written is lent to the call alone.
+        one_number(self.words(), |words, n, edition| unsafe {
+            calls::mk_edition(words, n, edition)
+        })
+    }
+
+    /// The code of a cell's type.
+    pub fn type_of(&self, cell: Cell) -> Result<u32, Refusal> {
         one_number(self.words(), |words, n, code| unsafe {
             calls::mk_type(words, n, cell.0, code)
         })

@@ -20,11 +20,12 @@ pub enum Refusal {
     OutputShort = 12,
     FacetOutside = 13,
     NotMesh = 14,
+    FaceFull = 19,
 }
 
 impl Refusal {
     /// All of them, by number.
-    pub const ALL: [Refusal; 14] = [
+    pub const ALL: [Refusal; 15] = [
         Refusal::CapacityAbove,
         Refusal::MemoryShort,
         Refusal::CellOutside,
@@ -39,6 +40,7 @@ impl Refusal {
         Refusal::OutputShort,
         Refusal::FacetOutside,
         Refusal::NotMesh,
+        Refusal::FaceFull,
     ];
 
     /// The outline's number.
@@ -54,7 +56,9 @@ impl Refusal {
             Refusal::CellOutside => "the cell number is not below the capacity",
             Refusal::CellLive => "the cell number is live already",
             Refusal::CellNotLive => "the cell is not live",
-            Refusal::TypeUnknown => "no such type, or a dimension that is not 1 to 3",
+            Refusal::TypeUnknown => {
+                "no such type, a dimension that is not 1 to 3, or an edition that is not 1 or 2"
+            }
             Refusal::CountWrong => "wrong count of marks, or a build record cut short",
             Refusal::MarkOutside => "a mark is not below the capacity",
             Refusal::MarkTwice => "a mark occurs twice",
@@ -63,15 +67,19 @@ impl Refusal {
             Refusal::OutputShort => "the output is shorter than the list",
             Refusal::FacetOutside => "the cell has no such facet",
             Refusal::NotMesh => "the memory is not a mesh",
+            Refusal::FaceFull => "under edition 2, a third solid on a face",
         }
     }
 
     /// What a call of the library answered: 0 for accepted.
     pub(crate) fn from_number(number: u8) -> Result<(), Refusal> {
-        match usize::from(number).checked_sub(1) {
-            None => Ok(()),
-            Some(row) => Err(Refusal::ALL[row]),
+        if number == 0 {
+            return Ok(());
         }
+        let named = Refusal::ALL
+            .into_iter()
+            .find(|refusal| refusal.number() == number);
+        Err(named.expect("the library's numbers have names"))
     }
 }
 

@@ -47,10 +47,44 @@ fn every_call_is_safe_on_damaged_memory() {
     assert!(whole > 0);
 }
 
-/// A small map after some edits, with words behind its room.
+/// The edition's word changed and no other: no mesh's where there is no such
+/// edition, and else a well-formed one exactly if each face has the solids that
+/// the other edition lets it have.
+#[test]
+fn the_other_edition_holds_of_the_same_cells_or_not() {
+    const EDITION: usize = 3;
+    let mut chance = Chance::from_seed(8);
+    let (mut yes, mut no) = (0, 0);
+    for _ in 0..2_000 {
+        let mut words = good_memory(&mut chance);
+        assert!(Mesh::over(&words[..]).whole() && told(&words).whole());
+        words[EDITION] = 3 - words[EDITION];
+        let whole = Mesh::over(&words[..]).whole();
+        assert_eq!(whole, told(&words).whole());
+        *if whole { &mut yes } else { &mut no } += 1;
+        if whole {
+            agrees(&words, (0..8).map(|_| draw(&mut chance)));
+        }
+        for edition in [0, 3, 4, 1 << 31, u32::MAX] {
+            words[EDITION] = edition;
+            let mesh = Mesh::over(&words[..]);
+            assert!(!mesh.whole());
+            assert_eq!(mesh.edition(), Err(Refusal::NotMesh));
+            let (number, _) = draw(&mut chance).to_library(&mesh);
+            assert_eq!(number, Refusal::NotMesh.number());
+        }
+    }
+    println!("the other edition held {yes} times and {no} times not");
+    assert!(yes > 100 && no > 20);
+}
+
+/// A small map after some edits, under either edition, with words behind its
+/// room.
 fn good_memory(chance: &mut Chance) -> Vec<u32> {
     let mut mesh = Mesh::over(vec![SENTINEL; room(MARKS, CELLS) + PAD]);
-    mesh.format(MARKS, CELLS).expect("the room fits");
+    let edition = 1 + chance.below(2);
+    mesh.format_edition(MARKS, CELLS, edition)
+        .expect("the room fits");
     for _ in 0..24 {
         edit(chance, &mut mesh);
     }
@@ -104,7 +138,7 @@ fn damage(chance: &mut Chance, words: &mut Vec<u32>) -> bool {
         }
         _ => {
             // a mesh's head over small numbers: links that lead anywhere
-            for word in &mut words[3..] {
+            for word in &mut words[4..] {
                 *word = small_number(chance);
             }
         }
@@ -137,7 +171,11 @@ fn one_call(chance: &mut Chance, words: &mut Vec<u32>) -> u64 {
         }
         1 => {
             let (marks, cells) = (chance.below(MARKS + 2), chance.below(CELLS + 2));
-            let formatted = Mesh::over(&mut words[..]).format(marks, cells);
+            let mut mesh = Mesh::over(&mut words[..]);
+            let formatted = match chance.below(5) {
+                4 => mesh.format(marks, cells),
+                edition => mesh.format_edition(marks, cells, edition),
+            };
             match formatted {
                 Ok(()) => assert_eq!(words[room(marks, cells)..], before[room(marks, cells)..]),
                 Err(_) => assert_eq!(*words, before),
@@ -147,11 +185,19 @@ fn one_call(chance: &mut Chance, words: &mut Vec<u32>) -> u64 {
         }
         2 => {
             let records: Vec<u32> = (0..chance.below(12)).map(|_| chance.below(8)).collect();
-            let built = Mesh::over(&mut words[..]).build(MARKS, CELLS, &Records::from(records));
+            let records = Records::from(records);
+            let edition = chance.below(4);
+            let mut mesh = Mesh::over(&mut words[..]);
+            let built = match edition {
+                0 => mesh.build(MARKS, CELLS, &records),
+                _ => mesh.build_edition(MARKS, CELLS, edition, &records),
+            };
             match built.map_err(|refused| refused.refusal.number()) {
                 Err(1 | 2) => assert_eq!(*words, before),
+                Err(6) if edition == 3 => assert_eq!(*words, before),
                 _ => {
                     assert!(Mesh::over(&words[..]).whole());
+                    assert_eq!(words[3], edition.max(1));
                     assert_eq!(words[room(MARKS, CELLS)..], before[room(MARKS, CELLS)..]);
                 }
             }
@@ -235,11 +281,17 @@ fn every_question() -> impl Iterator<Item = Question> {
         });
         pairs.chain([Question::Lookup(vec![a])])
     });
-    cells.chain(at_marks).chain(types).chain(sets)
+    let edition = [Question::Edition];
+    cells
+        .chain(at_marks)
+        .chain(types)
+        .chain(sets)
+        .chain(edition)
 }
 
 fn agrees(words: &[u32], questions: impl Iterator<Item = Question>) {
     let (mesh, second) = (Mesh::over(words), told(words));
+    assert!(second.whole());
     for question in questions {
         let (ours, theirs) = (question.to_library(&mesh), question.to_second(&second));
         assert_eq!(ours, theirs, "{question:?}");

@@ -3,7 +3,7 @@
 mod common;
 
 use common::{plain, Number, SENTINEL};
-use mengkiloh::{room, BuildRefused, Cell, Half, Mark, Mesh, Records, Refusal, Type};
+use mengkiloh::{room, BuildRefused, Cell, Edition, Half, Mark, Mesh, Records, Refusal, Type};
 
 #[test]
 fn capacities_go_to_65535() {
@@ -18,6 +18,47 @@ fn capacities_go_to_65535() {
         assert!(Mesh::over(&words[..]).whole());
         assert_eq!(words[room(marks, cells)..].last(), Some(&SENTINEL));
     }
+}
+
+/// "6 for another edition, before 1 and like it".
+#[test]
+fn editions_are_1_and_2() {
+    let exact = room(6, 4);
+    let mut words = vec![SENTINEL; exact + 1];
+    for edition in [0_u32, 3, 257, 258, u32::MAX] {
+        for (marks, cells) in [(6, 4), (65_536, 4), (6, u32::MAX), (6, 5)] {
+            let mut map = Mesh::over(&mut words[..exact]);
+            let answer = map.format_edition(marks, cells, edition);
+            assert_eq!(answer, Err(Refusal::TypeUnknown));
+            let refused = BuildRefused {
+                refusal: Refusal::TypeUnknown,
+                record: 0,
+            };
+            let built = map.build_edition(marks, cells, edition, &strip(2, 6));
+            assert_eq!(built, Err(refused));
+        }
+        assert!(words.iter().all(|&word| word == SENTINEL));
+    }
+    for edition in [Edition::First, Edition::Second] {
+        let mut map = Mesh::over(&mut words[..exact]);
+        let above = map.format_edition(65_536, 4, edition);
+        assert_eq!(above, Err(Refusal::CapacityAbove));
+        let short = map.format_edition(6, 5, edition);
+        assert_eq!(short, Err(Refusal::MemoryShort));
+        assert_eq!(map.format_edition(6, 4, edition), Ok(()));
+        assert_eq!(map.edition(), Ok(edition.into()));
+        assert!(map.whole());
+        assert_eq!(map.build_edition(6, 4, edition, &strip(2, 6)), Ok(()));
+        assert_eq!(map.edition(), Ok(edition.into()));
+        assert!(map.whole());
+    }
+    let mut map = Mesh::over(&mut words[..exact]);
+    assert_eq!(map.format(6, 4), Ok(()));
+    assert_eq!(map.edition(), Ok(1));
+    assert_eq!(map.format_edition(6, 4, Edition::Second), Ok(()));
+    assert_eq!(map.build(6, 4, &strip(2, 6)), Ok(()));
+    assert_eq!(map.edition(), Ok(1));
+    assert_eq!(words[exact], SENTINEL);
 }
 
 #[test]
@@ -176,6 +217,94 @@ fn a_full_mesh_of_bricks_is_built_whole_and_emptied() {
     let empty = Mesh::with_room(65_535, 65_535).expect("a mesh of its own");
     assert_eq!(map.words(), empty.words());
     assert!(words[exact..].iter().all(|&word| word == SENTINEL));
+}
+
+/// A chain of tetrahedra: cell c on the marks c to c + 3, so that the marks c,
+/// c + 1 and c + 2 are a face of the cells c - 1 and c.
+fn tetrahedra(cells: u32, marks: u32) -> Records {
+    let mut records = Records::new();
+    for cell in 0..cells {
+        let corners = [0, 1, 2, 3].map(|step| Mark((cell + step) % marks));
+        records.add(Cell(cell), Type::Tetrahedron, &corners);
+    }
+    records
+}
+
+#[test]
+fn a_full_mesh_under_edition_2_takes_two_solids_on_a_face_and_not_three() {
+    let exact = room(65_535, 65_535);
+    let mut map = Mesh::over(vec![SENTINEL; exact]);
+    let second = Edition::Second;
+    let refused = BuildRefused {
+        refusal: Refusal::FaceFull,
+        record: 2,
+    };
+    let built = map.build_edition(65_535, 65_535, second, &bricks(65_535, 65_535));
+    assert_eq!(built, Err(refused));
+    assert!(map.whole());
+    assert_eq!(map.edition(), Ok(2));
+    assert_eq!(map.count(Type::Brick), Ok(0));
+    let records = tetrahedra(65_535, 65_535);
+    let built = map.build_edition(65_535, 65_535, second, &records);
+    assert_eq!(built, Ok(()));
+    assert!(map.whole());
+    assert_eq!(map.edition(), Ok(2));
+    let full = map.words().to_vec();
+    assert_eq!(map.remove(Cell(30_000)), Ok(()));
+    let third = [30_011, 7, 30_012, 30_010].map(Mark);
+    let answer = map.insert(Cell(30_000), Type::Tetrahedron, &third);
+    assert_eq!(answer, Err(Refusal::FaceFull));
+    let third = [30_010, 7, 8, 30_011, 30_012].map(Mark);
+    let answer = map.insert(Cell(30_000), Type::Pyramid, &third);
+    assert_eq!(answer, Err(Refusal::FaceFull));
+    let third = [7, 8, 9, 30_012, 30_011, 30_010].map(Mark);
+    let answer = map.insert(Cell(30_000), Type::Wedge, &third);
+    assert_eq!(answer, Err(Refusal::FaceFull));
+    let twin = [30_013, 30_011, 30_012, 30_010].map(Mark);
+    let answer = map.insert(Cell(30_000), Type::Tetrahedron, &twin);
+    assert_eq!(answer, Err(Refusal::CellSame));
+    // the face of the removed cell has one solid left
+    let beside = [30_002, 30_001, 30_000, 7].map(Mark);
+    let answer = map.insert(Cell(30_000), Type::Tetrahedron, &beside);
+    assert_eq!(answer, Ok(()));
+    assert!(map.whole());
+    assert_eq!(map.remove(Cell(30_000)), Ok(()));
+    let marks = [30_000, 30_001, 30_002, 30_003].map(Mark);
+    assert_eq!(map.insert(Cell(30_000), Type::Tetrahedron, &marks), Ok(()));
+    assert_eq!(map.words(), full);
+    // the same cells under edition 1 differ in the head's one word
+    let mut first = Mesh::over(vec![SENTINEL; exact]);
+    assert_eq!(first.build(65_535, 65_535, &records), Ok(()));
+    let differ = (0..exact).filter(|&word| first.words()[word] != full[word]);
+    assert_eq!(Vec::from_iter(differ), [3]);
+}
+
+/// Checks 10, 19 and 11, in this order: a face with two solids at a full mark.
+#[test]
+fn a_third_solid_is_refused_after_a_twin_and_before_a_full_mark() {
+    let solid = Type::Tetrahedron;
+    let of_third = [
+        (Edition::First, Refusal::MarkFull),
+        (Edition::Second, Refusal::FaceFull),
+    ];
+    for (edition, due) in of_third {
+        let mut map = Mesh::with_room_edition(200, 200, edition).expect("a mesh of its own");
+        for (cell, marks) in [(0, [0, 1, 2, 3]), (1, [0, 2, 1, 4])] {
+            assert_eq!(map.insert(Cell(cell), solid, &marks.map(Mark)), Ok(()));
+        }
+        for cell in 2..128 {
+            let bar = map.insert(Cell(cell), Type::Bar, &[0, cell + 10].map(Mark));
+            assert_eq!(bar, Ok(()));
+        }
+        let before = map.words().to_vec();
+        let twin = map.insert(Cell(150), solid, &[3, 1, 0, 2].map(Mark));
+        assert_eq!(twin, Err(Refusal::CellSame));
+        let third = map.insert(Cell(150), solid, &[2, 6, 0, 1].map(Mark));
+        assert_eq!(third, Err(due));
+        let other = map.insert(Cell(150), solid, &[5, 6, 0, 7].map(Mark));
+        assert_eq!(other, Err(Refusal::MarkFull));
+        assert_eq!(map.words(), before);
+    }
 }
 
 #[test]

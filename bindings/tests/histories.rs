@@ -1,4 +1,5 @@
-//! Random histories, every answer beside the second program's.
+//! Random histories under both editions, every answer beside the second
+//! program's.
 
 mod common;
 
@@ -23,6 +24,7 @@ struct Size {
 
 #[test]
 fn at_50_cells() {
+    let mut third = 0;
     for seed in 0..40 {
         let size = Size {
             marks: 30,
@@ -31,8 +33,9 @@ fn at_50_cells() {
             edits: 300,
             questions: 12,
         };
-        history(seed, size);
+        third += history(seed, size);
     }
+    assert!(third > 40, "{third} third solids on a face");
 }
 
 #[test]
@@ -61,19 +64,23 @@ fn at_5000_cells() {
     history(200, size);
 }
 
-fn history(seed: u64, size: Size) {
+/// How many inserts were refused with 19.
+fn history(seed: u64, size: Size) -> u32 {
     let mut chance = Chance::from_seed(seed);
+    let edition = 1 + chance.below(2);
+    let mut third = 0;
     let exact = room(size.marks, size.cells);
     let mut memory = vec![SENTINEL; exact + 2 * PAD];
     let mut second = Memory::lent(exact);
     Mesh::over(&mut memory[PAD..PAD + exact])
-        .format(size.marks, size.cells)
+        .format_edition(size.marks, size.cells, edition)
         .expect("the room fits");
     second
-        .format(size.marks, size.cells)
+        .format_edition(size.marks, size.cells, edition)
         .expect("the room fits");
     for turn in 0..size.edits {
-        one_edit(&mut chance, &size, &mut memory, &mut second);
+        let number = one_edit(&mut chance, &size, &mut memory, &mut second);
+        third += u32::from(number == 19);
         assert!(memory[..PAD].iter().all(|&word| word == SENTINEL));
         assert!(memory[PAD + exact..].iter().all(|&word| word == SENTINEL));
         let words = &memory[PAD..PAD + exact];
@@ -84,9 +91,12 @@ fn history(seed: u64, size: Size) {
             afresh(&mut chance, &size, words, &second);
         }
     }
+    assert!(edition == 2 || third == 0);
+    third
 }
 
-fn one_edit(chance: &mut Chance, size: &Size, memory: &mut [u32], second: &mut Memory) {
+/// The number of its refusal, 0 for accepted.
+fn one_edit(chance: &mut Chance, size: &Size, memory: &mut [u32], second: &mut Memory) -> u8 {
     let exact = room(size.marks, size.cells);
     let before = memory.to_vec();
     let cell = chance.below(size.cells + 1 + size.cells / 50);
@@ -102,7 +112,7 @@ fn one_edit(chance: &mut Chance, size: &Size, memory: &mut [u32], second: &mut M
         (answer, expected, touched)
     } else {
         let (code, drawn) = match chance.below(2) {
-            0 => lattice::draw(chance, lattice::side(size.marks)),
+            0 => draw_part(chance, size),
             _ => draw_cell(chance, size),
         };
         let expected = theirs(second.insert(cell, code, &drawn), |()| vec![]);
@@ -112,7 +122,7 @@ fn one_edit(chance: &mut Chance, size: &Size, memory: &mut [u32], second: &mut M
     assert_eq!(answer, expected);
     if answer.0 != 0 {
         assert_eq!(memory, before, "a refused edit changes nothing");
-        return;
+        return answer.0;
     }
     let changed: Vec<usize> = (0..exact)
         .filter(|&word| memory[PAD + word] != before[PAD + word])
@@ -123,6 +133,7 @@ fn one_edit(chance: &mut Chance, size: &Size, memory: &mut [u32], second: &mut M
             "word {word} is of no record that the edit is about"
         );
     }
+    answer.0
 }
 
 /// A type's code, now and then none, and marks, now and then too few, too many
@@ -146,6 +157,12 @@ fn draw_cell(chance: &mut Chance, size: &Size) -> (u32, Vec<u32>) {
     (code, drawn)
 }
 
+/// A cell of a cube, of few cubes as often as of many, so that faces are full.
+fn draw_part(chance: &mut Chance, size: &Size) -> (u32, Vec<u32>) {
+    let side = 1 + chance.below(lattice::side(size.marks));
+    lattice::draw(chance, side)
+}
+
 fn draw_mark(chance: &mut Chance, size: &Size) -> u32 {
     match chance.below(80) {
         0 => chance.below(size.marks + 2),
@@ -158,14 +175,14 @@ fn live_cell(second: &Memory, cell: u32) -> Option<&LiveCell> {
     second::map::live_cell(live, second::map::Cell(cell))
 }
 
-/// The head, the records of the edited cell and its marks, and those of the
-/// cells that share a mark with it; second parts only of cells with more than
-/// four marks.
+/// The head's live counts, the records of the edited cell and its marks, and
+/// those of the cells that share a mark with it; second parts only of cells with
+/// more than four marks.
 fn may_change(size: &Size, second: &Memory, edited: u32, touched: &[u32], word: usize) -> bool {
     let first_cell = 16 + 8 * size.marks as usize;
     let second_part = first_cell + 16 * size.cells as usize;
     if word < 16 {
-        return true;
+        return (5..12).contains(&word);
     }
     if word < first_cell {
         return touched.contains(&((word as u32 - 16) / 8));
@@ -193,7 +210,7 @@ fn ask(chance: &mut Chance, size: &Size, words: &[u32], second: &Memory) {
 }
 
 /// "The evening's lists the afternoon's": a build of the live cells in any
-/// order is the same memory, word for word.
+/// order under the same edition is the same memory, word for word.
 fn afresh(chance: &mut Chance, size: &Size, words: &[u32], second: &Memory) {
     assert!(Mesh::over(words).whole());
     let mut live: Vec<&LiveCell> = second
@@ -203,7 +220,8 @@ fn afresh(chance: &mut Chance, size: &Size, words: &[u32], second: &Memory) {
         .collect();
     chance.shuffle(&mut live);
     let mut built = Mesh::over(vec![chance.bits() as u32; words.len()]);
-    let answer = built.build(size.marks, size.cells, &records(live));
+    let edition = Mesh::over(words).edition().expect("a mesh");
+    let answer = built.build_edition(size.marks, size.cells, edition, &records(live));
     assert_eq!(answer, Ok(()));
     assert_eq!(built.words(), words);
 }

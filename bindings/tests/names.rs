@@ -3,7 +3,7 @@
 
 use std::path::Path;
 
-use mengkiloh::{Refusal, Type};
+use mengkiloh::{Edition, Refusal, Type};
 
 /// What stands between the braces behind `opening` in a file of the repository.
 fn braced(file: &str, opening: &str) -> String {
@@ -33,7 +33,7 @@ fn ours() -> Vec<String> {
 #[test]
 fn numbers_are_those_of_the_table() {
     let numbers = Refusal::ALL.map(Refusal::number);
-    assert!(numbers.iter().copied().eq(1..=14));
+    assert!(numbers.iter().copied().eq((1..=14).chain([19])));
 }
 
 #[test]
@@ -42,7 +42,8 @@ fn the_proved_crate_has_these_names() {
     let mut theirs: Vec<&str> = inside.split(',').map(str::trim).collect();
     theirs.retain(|name| !name.is_empty());
     // the frame program's own
-    assert_eq!(theirs.pop(), Some("BadFrame"));
+    assert!(theirs.contains(&"BadFrame"));
+    theirs.retain(|&name| name != "BadFrame");
     assert_eq!(theirs, ours());
 }
 
@@ -55,9 +56,10 @@ fn the_header_has_these_names() {
         .map(|row| row.trim().to_string())
         .collect();
     let accepted = ["ACCEPTED = 0".to_string()];
-    let refused = (1..)
-        .zip(ours())
-        .map(|(n, name)| format!("{} = {n}", upper(&name)));
+    let refused = Refusal::ALL.map(|refusal| {
+        let name = upper(&format!("{refusal:?}"));
+        format!("{name} = {}", refusal.number())
+    });
     assert_eq!(theirs, Vec::from_iter(accepted.into_iter().chain(refused)));
 }
 
@@ -100,10 +102,21 @@ fn every_code_of_the_table_is_a_type_and_no_other() {
 }
 
 #[test]
+fn every_edition_of_the_second_program_is_one_and_no_other() {
+    for number in 0..5 {
+        let known = second::calls::EDITIONS.contains(&number);
+        assert_eq!(
+            Edition::try_from(number).map(u32::from),
+            known.then_some(number).ok_or(number)
+        );
+    }
+}
+
+#[test]
 fn the_second_program_has_these_names() {
-    let mut theirs = second::Refusal::ALL
-        .map(|refusal| format!("{refusal:?}"))
-        .to_vec();
-    assert_eq!(theirs.pop().as_deref(), Some("BadFrame"));
-    assert_eq!(theirs, ours());
+    let numbered = |refusal: second::Refusal| (refusal.number(), format!("{refusal:?}"));
+    let mut theirs = second::Refusal::ALL.map(numbered).to_vec();
+    theirs.retain(|(_, name)| name != "BadFrame");
+    let numbers = Refusal::ALL.map(Refusal::number);
+    assert_eq!(theirs, Vec::from_iter(numbers.into_iter().zip(ours())));
 }

@@ -1,6 +1,7 @@
-//! "Memory saved before is built again": the head's first word tells it.
+//! "Memory saved before is built again": the head's first word tells it, and its
+//! edition's, which was 0.
 
-use mengkiloh::{Cell, Mark, Mesh, Refusal, Type};
+use mengkiloh::{Cell, Edition, Mark, Mesh, Refusal, Type};
 
 /// The first word of a mesh before request 3.
 const BEFORE: u32 = 1_296_780_361;
@@ -18,5 +19,19 @@ fn memory_saved_before_request_3_is_no_mesh() {
     let map = Mesh::over(saved);
     assert!(!map.whole());
     assert_eq!(map.anchors(2, Mark(0)), Err(Refusal::NotMesh));
+    assert_eq!(map.type_of(Cell(0)), Err(Refusal::NotMesh));
+}
+
+#[test]
+fn memory_saved_before_request_8_is_no_mesh() {
+    let mut map = Mesh::with_room(5, 4).unwrap();
+    map.insert(Cell(0), Type::Quad, &[0, 1, 2, 3].map(Mark))
+        .unwrap();
+    assert_eq!(map.edition(), Ok(Edition::First.into()));
+    let mut saved = map.words().to_vec();
+    saved[3] = 0;
+    let map = Mesh::over(saved);
+    assert!(!map.whole());
+    assert_eq!(map.edition(), Err(Refusal::NotMesh));
     assert_eq!(map.type_of(Cell(0)), Err(Refusal::NotMesh));
 }

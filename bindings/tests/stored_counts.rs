@@ -101,10 +101,10 @@ fn a_right_count_asks_for_its_list_alone() {
 }
 
 #[test]
-fn any_words_behind_the_capacities_ask_for_no_more_than_the_longest_list() {
+fn any_words_behind_the_edition_ask_for_no_more_than_the_longest_list() {
     for fill in [0, 1, 2, 4, 9, 65_535, 1 << 31, u32::MAX] {
         let mut words = small_map();
-        words[3..].fill(fill);
+        words[4..].fill(fill);
         let map = Mesh::over(words);
         let ((), bytes) = asked_for(|| every_list(&map));
         assert!(bytes <= 4 * LONGEST, "{bytes} bytes for words of {fill}");
@@ -113,9 +113,18 @@ fn any_words_behind_the_capacities_ask_for_no_more_than_the_longest_list() {
 
 #[test]
 fn capacities_that_do_not_fit_ask_for_nothing() {
-    for (place, capacity) in [(1, u32::MAX), (2, u32::MAX), (2, 65_535), (2, CELLS + 1)] {
+    for (place, number) in [
+        (1, u32::MAX),
+        (2, u32::MAX),
+        (2, 65_535),
+        (2, CELLS + 1),
+        // an edition that there is not
+        (3, 0),
+        (3, 3),
+        (3, u32::MAX),
+    ] {
         let mut words = small_map();
-        words[place] = capacity;
+        words[place] = number;
         let map = Mesh::over(words);
         assert_eq!(map.count(Type::Triangle), Err(Refusal::NotMesh));
         let (answer, bytes) = asked_for(|| map.cells(Type::Triangle));

@@ -20,6 +20,16 @@ fn main() -> Result<(), Refusal> {
         Ok(()) => println!("cell 5 stands"),
         Err(refusal) => println!("cell 5 is refused with {}", refusal.number()),
     }
+
+    let mut harbour = Memory::lent(room(6, 4));
+    harbour.format_edition(6, 4, 2)?;
+    harbour.insert(0, 4, &[0, 1, 2, 3])?;
+    harbour.insert(1, 4, &[0, 2, 1, 4])?;
+    print!("edition {}: ", harbour.edition()?);
+    match harbour.insert(2, 4, &[0, 1, 2, 5]) {
+        Ok(()) => println!("three solids on a face"),
+        Err(refusal) => println!("a third solid is refused with {}", refusal.number()),
+    }
     Ok(())
 }
 

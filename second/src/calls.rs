@@ -3,18 +3,31 @@
 //!
 //! "Checks run in this order: 14 first, save for format and build, then as
 //! follows. Format: 1, 2. Insert: 3, 4, 6, 7, 8, 9, 10, 11. Remove: 3, 5.
-//! Queries: 3, 5, 13, 6, 7, 8, 9, 12, those that apply." Numbers come in
-//! uncut, as whole 32-bit words. A half-facet is answered as its number.
+//! Queries: 3, 5, 13, 6, 7, 8, 9, 12, those that apply." Request 8 adds "6 for
+//! another edition, before 1 and like it; 19 for the third solid, after 10 and
+//! before 11". Numbers come in uncut, as whole 32-bit words. A half-facet is
+//! answered as its number.
 
 use crate::map::{self, Cell, HalfFacet, LiveCell, Mark};
-use crate::shapes::{type_with_code, Type, DIMENSIONS, HALF_FACETS_A_CELL, LOOKUP_MARKS};
+use crate::shapes::{type_with_code, Type, DIMENSIONS, HALF_FACETS_A_CELL, LOOKUP_MARKS, SOLID};
 use crate::Refusal;
+use std::ops::RangeInclusive;
 
 /// "Capacities: 0 to 65,535 marks and 0 to 65,535 cells."
 pub const LARGEST_CAPACITY: u32 = 65_535;
 
 /// "A mark may stand in at most 128 live cells, all dimensions together."
 pub const CELLS_AT_A_MARK: usize = 128;
+
+/// "an edition number, 1 or 2"
+pub const EDITIONS: RangeInclusive<u32> = FIRST_EDITION..=SECOND_EDITION;
+
+/// "01's forms .. mean edition 1."
+pub const FIRST_EDITION: u32 = 1;
+
+/// "From next year a face may lie between two solids at most."
+pub const SECOND_EDITION: u32 = 2;
+pub const SOLIDS_AT_A_FACE: usize = 2;
 
 /// "room = 16 + 8 × marks + 32 × cells"
 pub const HEAD_WORDS: usize = 16;
@@ -26,11 +39,12 @@ pub fn room(marks: u32, cells: u32) -> usize {
     HEAD_WORDS + MARK_WORDS * marks as usize + CELL_WORDS * cells as usize
 }
 
-/// A mesh: its two capacities and its live cells.
+/// A mesh: its two capacities, its edition and its live cells.
 #[derive(Clone, Debug, PartialEq, Eq)]
 pub struct Mesh {
     pub marks: u32,
     pub cells: u32,
+    pub edition: u32,
     pub live: Vec<LiveCell>,
 }
 
@@ -51,10 +65,15 @@ pub struct Walker {
 }
 
 impl Mesh {
-    /// A mesh of these capacities with no live cell.
-    pub fn formatted(marks: u32, cells: u32) -> Mesh {
+    /// A mesh of these capacities and this edition with no live cell.
+    pub fn formatted(marks: u32, cells: u32, edition: u32) -> Mesh {
         let live = Vec::new();
-        Mesh { marks, cells, live }
+        Mesh {
+            marks,
+            cells,
+            edition,
+            live,
+        }
     }
 }
 
@@ -64,25 +83,43 @@ impl Memory {
         Memory { words, mesh: None }
     }
 
-    /// Format: 1, 2.
+    /// Format under edition 1: 1, 2.
     pub fn format(&mut self, marks: u32, cells: u32) -> Result<(), Refusal> {
+        self.format_edition(marks, cells, FIRST_EDITION)
+    }
+
+    /// Format: 6, 1, 2.
+    pub fn format_edition(&mut self, marks: u32, cells: u32, edition: u32) -> Result<(), Refusal> {
+        known_edition(edition)?;
         capacities_in_range(marks, cells)?;
         room_fits(self.words, marks, cells)?;
-        self.mesh = Some(Mesh::formatted(marks, cells));
+        self.mesh = Some(Mesh::formatted(marks, cells, edition));
         Ok(())
     }
 
-    /// "Build does format, then inserts in order. At the first refused record
-    /// it answers number and record place (from 0) and leaves a formatted mesh
-    /// with no live cell. Refusals 1 and 2 come with place 0 and change
-    /// nothing."
+    /// Build under edition 1.
     pub fn build(
         &mut self,
         marks: u32,
         cells: u32,
         records: &[u32],
     ) -> Result<(), (Refusal, usize)> {
-        self.format(marks, cells).map_err(|refusal| (refusal, 0))?;
+        self.build_edition(marks, cells, FIRST_EDITION, records)
+    }
+
+    /// "Build does format, then inserts in order. At the first refused record
+    /// it answers number and record place (from 0) and leaves a formatted mesh
+    /// with no live cell. Refusals 1 and 2 come with place 0 and change
+    /// nothing." "6 for another edition, before 1 and like it".
+    pub fn build_edition(
+        &mut self,
+        marks: u32,
+        cells: u32,
+        edition: u32,
+        records: &[u32],
+    ) -> Result<(), (Refusal, usize)> {
+        self.format_edition(marks, cells, edition)
+            .map_err(|refusal| (refusal, 0))?;
         let mut left = records;
         let mut place = 0;
         while !left.is_empty() {
@@ -112,7 +149,7 @@ impl Memory {
         Ok(after)
     }
 
-    /// Insert: 14, 3, 4, 6, 7, 8, 9, 10, 11.
+    /// Insert: 14, 3, 4, 6, 7, 8, 9, 10, 19, 11.
     pub fn insert(&mut self, cell: u32, code: u32, marks: &[u32]) -> Result<(), Refusal> {
         let mesh = self.held()?;
         let number = cell_below_capacity(mesh, cell)?;
@@ -122,6 +159,7 @@ impl Memory {
         let marks = marks_below_capacity(mesh, marks)?;
         each_once(&marks)?;
         no_same_cell(mesh, row, &marks)?;
+        no_third_solid(mesh, number, row, &marks)?;
         no_full_mark(mesh, &marks)?;
         self.change(|live| live.push(LiveCell { number, row, marks }));
         Ok(())
@@ -134,6 +172,11 @@ impl Memory {
         is_live(mesh, number)?;
         self.change(|live| live.retain(|cell| cell.number != number));
         Ok(())
+    }
+
+    /// The edition: 14.
+    pub fn edition(&self) -> Result<u32, Refusal> {
+        Ok(self.held()?.edition)
     }
 
     /// The type code of a cell: 14, 3, 5.
@@ -228,13 +271,14 @@ impl Memory {
     }
 
     /// "The whole check never refuses". Yes if memory holds a mesh, and a build
-    /// from its own live cells is accepted.
+    /// from its own live cells under its edition is accepted.
     pub fn whole(&self) -> bool {
         let Ok(mesh) = self.held() else {
             return false;
         };
         let mut afresh = Memory::lent(self.words);
-        if afresh.format(mesh.marks, mesh.cells).is_err() {
+        let formatted = afresh.format_edition(mesh.marks, mesh.cells, mesh.edition);
+        if formatted.is_err() {
             return false;
         }
         mesh.live.iter().all(|cell| {
@@ -244,11 +288,12 @@ impl Memory {
     }
 
     /// 14: "memory is under 16 words, or its head gives no capacities or gives
-    /// ones whose room does not fit".
+    /// ones whose room does not fit"; or gives an edition that there is not.
     fn held(&self) -> Result<&Mesh, Refusal> {
         self.mesh
             .as_ref()
             .filter(|mesh| room(mesh.marks, mesh.cells) <= self.words)
+            .filter(|mesh| EDITIONS.contains(&mesh.edition))
             .ok_or(Refusal::NotMesh)
     }
 
@@ -281,6 +326,11 @@ impl Walker {
         let facet = self.half % HALF_FACETS_A_CELL;
         memory.sibling(cell, facet).map(|half| Walker { half })
     }
+}
+
+/// 6: "for another edition"
+fn known_edition(edition: u32) -> Result<(), Refusal> {
+    refuse_if(!EDITIONS.contains(&edition), Refusal::TypeUnknown)
 }
 
 /// 1: "a capacity is above 65,535"
@@ -356,6 +406,23 @@ fn no_same_cell(mesh: &Mesh, row: &Type, marks: &[Mark]) -> Result<(), Refusal> 
     let of_type = map::cells_of_type(&mesh.live, row);
     let same = of_type.iter().any(|cell| map::same_set(&cell.marks, marks));
     refuse_if(same, Refusal::CellSame)
+}
+
+/// 19: "Under edition 2, an insert that would put a third solid on a face is
+/// refused."
+fn no_third_solid(
+    mesh: &Mesh,
+    number: Cell,
+    row: &'static Type,
+    marks: &[Mark],
+) -> Result<(), Refusal> {
+    let marks = marks.to_vec();
+    let faces = map::half_facets_of(&LiveCell { number, row, marks });
+    let third = faces
+        .iter()
+        .any(|face| map::solids_on(&mesh.live, &face.marks).len() >= SOLIDS_AT_A_FACE);
+    let limited = mesh.edition == SECOND_EDITION && row.dimension == SOLID;
+    refuse_if(limited && third, Refusal::FaceFull)
 }
 
 /// 11: "one of the marks stands in 128 live cells already"

@@ -6,10 +6,14 @@
 //! refused, request 3's two quads that only look joined and two that share two
 //! edges, a pyramid with a tetrahedron and a quad on its faces; with more marks
 //! a brick on a brick, a wedge between a brick and a pyramid, faces in crossed
-//! order, the wedge taken away; memory that is no mesh. `bound` lines are the outline's "To run":
-//! capacities, rooms, a mark's 128th and 129th cell, lists that fit exactly
-//! and lists one place too long.
+//! order, the wedge taken away; memory that is no mesh; under edition 2 an edge
+//! with many faces, a build refused at the third solid on a face, and third
+//! solids on faces in crossed order, on a triangle and on a quad, some of them
+//! accepted after a removal. `bound` lines are the outline's "To run":
+//! capacities, editions, rooms, a mark's 128th and 129th cell, lists that fit
+//! exactly and lists one place too long.
 
+use crate::calls::{FIRST_EDITION, SECOND_EDITION};
 use crate::{Memory, Refusal, Walker};
 use std::fmt::Write;
 
@@ -160,19 +164,67 @@ const SOLIDS: &[Case] = &[
     case("R24", &[], &[BRICK, WEDGE, PYRAMID, END, Remove(1)]),
 ];
 
+/// Under edition 2.
+const LIMITED: &[Case] = &[
+    case("R26", THREE, &[Insert((3, QUAD, &[0, 1, 2, 3]))]),
+    case(
+        "R27",
+        &[
+            (0, TETRA, &[0, 1, 2, 3]),
+            (1, TETRA, &[0, 2, 1, 4]),
+            (2, PYRA, &[0, 1, 3, 4, 2]),
+        ],
+        &[],
+    ),
+];
+
+const LIMITED_SOLIDS: &[Case] = &[
+    case(
+        "R28",
+        &[],
+        &[
+            BRICK,
+            Insert((1, HEXA, &[4, 6, 5, 7, 8, 9, 10, 11])),
+            Insert((2, PYRA, &[7, 4, 6, 5, 8])),
+        ],
+    ),
+    case(
+        "R29",
+        &[],
+        &[
+            Insert((0, TETRA, &[0, 1, 2, 3])),
+            Insert((1, PYRA, &[0, 1, 4, 5, 2])),
+            Insert((2, PENTA, &[2, 0, 1, 6, 7, 8])),
+            Insert((2, TRI, &[0, 1, 2])),
+            Remove(0),
+            Insert((3, PENTA, &[2, 0, 1, 6, 7, 8])),
+        ],
+    ),
+    case(
+        "R30",
+        &[],
+        &[
+            BRICK,
+            WEDGE,
+            Insert((2, PYRA, &[6, 1, 5, 2, 10])),
+            Insert((2, HEXA, &[7, 6, 5, 4, 3, 2, 1, 0])),
+            Remove(0),
+            Insert((2, PYRA, &[6, 1, 5, 2, 10])),
+            BRICK,
+        ],
+    ),
+];
+
 /// All of it, one answer or one group of answers a line.
 pub fn text() -> String {
     let mut text = Text::default();
-    for case in CASES {
-        let memory = text.made(case, MARKS, WORDS);
-        text.everything(case.name, &memory);
-    }
-    for case in SOLIDS {
-        let memory = text.made(case, SOLID_MARKS, SOLID_WORDS);
-        text.of_solids(case.name, &memory);
-    }
+    text.small(CASES, FIRST_EDITION);
+    text.solids(SOLIDS, FIRST_EDITION);
     text.everything("R25", &Memory::lent(WORDS));
+    text.small(LIMITED, SECOND_EDITION);
+    text.solids(LIMITED_SOLIDS, SECOND_EDITION);
     text.formats();
+    text.editions();
     text.full_mark();
     text.lines
 }
@@ -247,8 +299,22 @@ impl Text {
         writeln!(self.lines, "{line}").expect("a string takes any text");
     }
 
+    fn small(&mut self, cases: &[Case], edition: u32) {
+        for case in cases {
+            let memory = self.made(case, MARKS, WORDS, edition);
+            self.everything(case.name, &memory);
+        }
+    }
+
+    fn solids(&mut self, cases: &[Case], edition: u32) {
+        for case in cases {
+            let memory = self.made(case, SOLID_MARKS, SOLID_WORDS, edition);
+            self.of_solids(case.name, &memory);
+        }
+    }
+
     /// The map of a case.
-    fn made(&mut self, case: &Case, marks: u32, words: usize) -> Memory {
+    fn made(&mut self, case: &Case, marks: u32, words: usize, edition: u32) -> Memory {
         let name = case.name;
         let mut memory = Memory::lent(words);
         let mut words = Vec::new();
@@ -256,7 +322,7 @@ impl Text {
             words.extend([cell, code]);
             words.extend(marks);
         }
-        let built = match memory.build(marks, CELLS, &words) {
+        let built = match memory.build_edition(marks, CELLS, edition, &words) {
             Ok(()) => "accepted".to_string(),
             Err((refusal, place)) => format!("refused {} record {place}", refusal.number()),
         };
@@ -296,6 +362,7 @@ impl Text {
         }
         self.types(name, memory);
         self.sets(name, memory);
+        self.edition(name, memory);
         self.whole(name, memory);
     }
 
@@ -316,6 +383,7 @@ impl Text {
         self.set(name, memory, &[0, 1, 6, 7]);
         self.set(name, memory, &[0, 1, 2, 12]);
         self.set(name, memory, &[0, 1, 2, 3, 12]);
+        self.edition(name, memory);
         self.whole(name, memory);
     }
 
@@ -325,6 +393,11 @@ impl Text {
             let count = memory.count_of_type(code).says();
             self.line(format!("{name} type {code}: cells {cells}, count {count}"));
         }
+    }
+
+    fn edition(&mut self, name: &str, memory: &Memory) {
+        let edition = memory.edition().says();
+        self.line(format!("{name} edition: {edition}"));
     }
 
     fn whole(&mut self, name: &str, memory: &Memory) {
@@ -404,6 +477,28 @@ impl Text {
             let answer = Memory::lent(words).format(marks, cells).says();
             self.line(format!(
                 "bound format {words} words {marks} {cells}: {answer}"
+            ));
+        }
+    }
+
+    /// "6 for another edition, before 1 and like it"
+    fn editions(&mut self) {
+        for (words, marks, cells, edition) in [
+            (WORDS, MARKS, CELLS, 0),
+            (WORDS, MARKS, CELLS, 1),
+            (WORDS, MARKS, CELLS, 2),
+            (WORDS, MARKS, CELLS, 3),
+            (WORDS, MARKS, CELLS, 258),
+            (WORDS, 65_536, 0, 2),
+            (WORDS, 65_536, 0, 3),
+            (WORDS, 65_535, 65_535, 2),
+            (WORDS, 65_535, 65_535, 3),
+        ] {
+            let answer = Memory::lent(words)
+                .format_edition(marks, cells, edition)
+                .says();
+            self.line(format!(
+                "bound format {words} words {marks} {cells} edition {edition}: {answer}"
             ));
         }
     }

@@ -2,6 +2,7 @@
 //! ended by 0a. Numbers are big-endian: two bytes for marks, cells, capacities
 //! and counts; one byte for codes, dimensions and facets."
 
+use crate::calls::FIRST_EDITION;
 use crate::shapes::HALF_FACETS_A_CELL;
 use crate::{room, Memory, Mesh, Refusal};
 
@@ -71,7 +72,7 @@ impl Program {
     /// "It starts with capacities 0 and 0."
     pub fn new() -> Program {
         let words = room(MOST_MARKS, MOST_CELLS);
-        let mesh = Some(Mesh::formatted(0, 0));
+        let mesh = Some(Mesh::formatted(0, 0, FIRST_EDITION));
         let memory = Memory { words, mesh };
         let line = Line::new();
         Program { memory, line }

@@ -1,8 +1,8 @@
 //! The second program: the outline by its definitions, in plain Rust.
 //!
 //! It exists to be compared with. So it stores no link and keeps no answer: a
-//! mesh is two capacities and a list of live cells, and every question scans
-//! that list as the outline's sentence says.
+//! mesh is two capacities, an edition and a list of live cells, and every
+//! question scans that list as the outline's sentence says.
 //!
 //! - [`shapes`]: the type table; a new type is one more row.
 //! - [`map`]: the definitions over the list of live cells.

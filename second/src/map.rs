@@ -4,7 +4,7 @@
 //! stored link." Each function scans the whole list, and the order of that
 //! list never matters: an answer that has an order is put into it here.
 
-use crate::shapes::{Type, HALF_FACETS_A_CELL};
+use crate::shapes::{Type, HALF_FACETS_A_CELL, SOLID};
 
 /// A mark's number. "Mark numbers and cell numbers run from zero and stand in
 /// separate registers", so each has its own type.
@@ -98,6 +98,15 @@ pub fn cycle(live: &[LiveCell], half: &HalfFacet) -> Vec<HalfFacet> {
 /// "Border: a half-facet alone in its set."
 pub fn border(live: &[LiveCell], half: &HalfFacet) -> bool {
     siblings(live, half).len() == 1
+}
+
+/// The solids that a face lies between: the live cells of dimension 3 with a
+/// facet of the same set of marks.
+pub fn solids_on<'a>(live: &'a [LiveCell], face: &[Mark]) -> Vec<&'a LiveCell> {
+    ascending(live, |cell| {
+        let facets = half_facets_of(cell);
+        cell.row.dimension == SOLID && facets.iter().any(|half| same_set(&half.marks, face))
+    })
 }
 
 /// How many live cells the mark stands in, "all dimensions together".

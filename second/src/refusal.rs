@@ -1,5 +1,5 @@
-//! The refusal numbers, as the outline's table gives them, with the names of
-//! `map::Refusal`.
+//! The refusal numbers, as the outline's table and the requests after it give
+//! them, with the names of `map::Refusal`.
 
 use std::fmt;
 
@@ -21,11 +21,12 @@ pub enum Refusal {
     FacetOutside = 13,
     NotMesh = 14,
     BadFrame = 15,
+    FaceFull = 19,
 }
 
 impl Refusal {
     /// All of them, by number.
-    pub const ALL: [Refusal; 15] = [
+    pub const ALL: [Refusal; 16] = [
         Refusal::CapacityAbove,
         Refusal::MemoryShort,
         Refusal::CellOutside,
@@ -41,6 +42,7 @@ impl Refusal {
         Refusal::FacetOutside,
         Refusal::NotMesh,
         Refusal::BadFrame,
+        Refusal::FaceFull,
     ];
 
     /// The number of the table.
@@ -56,7 +58,9 @@ impl Refusal {
             Refusal::CellOutside => "a cell number is not below the capacity",
             Refusal::CellLive => "insert: the number is live",
             Refusal::CellNotLive => "the cell is not live",
-            Refusal::TypeUnknown => "type code not in the table, or dimension not 1 to 3",
+            Refusal::TypeUnknown => {
+                "type code not in the table, dimension not 1 to 3, or edition not 1 or 2"
+            }
             Refusal::CountWrong => {
                 "wrong count of marks for the type or the lookup, or a build record cut short"
             }
@@ -68,6 +72,7 @@ impl Refusal {
             Refusal::FacetOutside => "local facet not below the type's count",
             Refusal::NotMesh => "memory is not a mesh",
             Refusal::BadFrame => "bad frame (program only)",
+            Refusal::FaceFull => "insert under edition 2: a third solid on a face",
         }
     }
 }

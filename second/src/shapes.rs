@@ -90,6 +90,9 @@ pub const TYPES: &[Type] = &[
 /// Refusal 6: "dimension not 1 to 3".
 pub const DIMENSIONS: RangeInclusive<u32> = 1..=3;
 
+/// The dimension of the solids.
+pub const SOLID: u32 = 3;
+
 /// "Lookup takes sets of up to 4 marks."
 pub const LOOKUP_MARKS: RangeInclusive<usize> = 1..=4;
 

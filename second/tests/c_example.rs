@@ -33,6 +33,15 @@ const RECORDS: [u32; 71] = [
 
 const CUT_SHORT: [u32; 9] = [0, TRI, 0, 1, 2, 1, TRI, 0, 2];
 
+/// Three solids on the face between the block and the pier.
+#[rustfmt::skip]
+const THIRD: [u32; 24] = [
+    10, HEXA, 12, 13, 14, 15, 16, 17, 18, 19,
+    11, PYRA, 16, 17, 18, 19, 5,
+    12, PYRA, 16, 18, 17, 19, 11,
+];
+const OTHER_PIER: [u32; 5] = [16, 18, 17, 19, 11];
+
 #[test]
 fn the_example_in_c_prints_what_the_definitions_answer() {
     let expected = include_str!("../../tests/c/expected");
@@ -44,6 +53,7 @@ fn text() -> String {
     let mut lines = Lines(String::new());
     let nothing = Memory::lent(words);
     lines.whole(&nothing);
+    lines.edition(&nothing);
     lines.star(&nothing, 2, 0, PLACES);
     lines.verdict("format", Memory::lent(words - 1).format(MARKS, CELLS));
     lines.verdict("format", Memory::lent(words).format(65_536, CELLS));
@@ -64,6 +74,7 @@ fn text() -> String {
     lines.verdict("remove 5", memory.remove(5));
     lines.verdict("insert 9", memory.insert(9, TRI, &WALL));
     lines.all(&memory);
+    lines.second_edition(&mut memory);
     lines.0
 }
 
@@ -107,6 +118,48 @@ impl Lines {
         let place = answer.err().map(|(_, place)| place as u32);
         let refusal = answer.map_err(|(refusal, _)| refusal);
         self.say("build", number(&refusal), &[word(place)]);
+    }
+
+    fn build_edition(&mut self, memory: &mut Memory, edition: u32, records: &[u32]) {
+        let answer = memory.build_edition(MARKS, CELLS, edition, records);
+        let place = answer.err().map(|(_, place)| place as u32);
+        let refusal = answer.map_err(|(refusal, _)| refusal);
+        let what = format!("build edition {edition}");
+        self.say(&what, number(&refusal), &[word(place)]);
+    }
+
+    fn format_edition(&mut self, memory: &mut Memory, marks: u32, edition: u32) {
+        let answer = memory.format_edition(marks, CELLS, edition);
+        self.verdict(&format!("format edition {edition}"), answer);
+    }
+
+    fn edition(&mut self, memory: &Memory) {
+        self.one("edition", memory.edition());
+    }
+
+    fn second_edition(&mut self, memory: &mut Memory) {
+        self.edition(memory);
+        self.format_edition(memory, MARKS, 3);
+        self.format_edition(memory, 65_536, 3);
+        self.format_edition(memory, 65_536, 2);
+        self.build_edition(memory, 0, &RECORDS);
+        self.edition(memory);
+        self.whole(memory);
+        self.format_edition(memory, MARKS, 2);
+        self.edition(memory);
+        self.build_edition(memory, 2, &THIRD);
+        self.edition(memory);
+        self.whole(memory);
+        self.build_edition(memory, 1, &THIRD);
+        self.edition(memory);
+        self.build_edition(memory, 2, &RECORDS);
+        self.edition(memory);
+        self.verdict("insert 9", memory.insert(9, PYRA, &OTHER_PIER));
+        self.verdict("remove 11", memory.remove(11));
+        self.verdict("insert 9", memory.insert(9, PYRA, &OTHER_PIER));
+        self.all(memory);
+        self.build(memory, &RECORDS);
+        self.edition(memory);
     }
 
     fn star(&mut self, memory: &Memory, dimension: u32, mark: u32, room: usize) {

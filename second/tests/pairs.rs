@@ -8,7 +8,7 @@
 mod common;
 
 use common::maps::*;
-use common::pairs::{Pairs, MISSING};
+use common::pairs::{Pairs, EDITION, MISSING};
 use second::{room, Memory, Refusal, Walker};
 
 /// A value of an argument and the faults it brings.
@@ -18,6 +18,7 @@ const ABOVE_ALL: u32 = 70_000;
 const NO_LIVE_CELL: &str = "without a mesh no cell is live";
 const LIVE_IS_BELOW: &str = "a live number is below the capacity";
 const NO_CELL_OF_IT: &str = "no live cell is of an unknown type";
+const NO_FACE_OF_IT: &str = "an unknown type has no faces";
 const LIVE_MARKS_ARE_BELOW: &str = "the marks of a live cell are below the capacity";
 const LIVE_MARKS_DIFFER: &str =
     "the marks of a live cell are all different, so a list of the right \
@@ -81,6 +82,39 @@ fn format_1_2() {
     pairs.end(&[]);
 }
 
+fn editions() -> [Choice<u32>; 5] {
+    [
+        (2, &[]),
+        (0, &[EDITION]),
+        (3, &[EDITION]),
+        (258, &[EDITION]),
+        (u32::MAX, &[EDITION]),
+    ]
+}
+
+#[test]
+fn format_edition_6_1_2() {
+    let mut pairs = Pairs::in_order(&[EDITION, 1, 2]);
+    for ((marks, cells, words), faults) in lent_for_200() {
+        for (edition, of_edition) in editions() {
+            let mut memory = Memory::lent(words);
+            let answer = memory.format_edition(marks, cells, edition);
+            assert_eq!(memory.mesh.is_some(), answer.is_ok());
+            pairs.see(&[of_edition, faults], answer.err());
+        }
+    }
+    pairs.end(&[]);
+}
+
+#[test]
+fn edition_14() {
+    let mut pairs = Pairs::in_order(&[14]);
+    for (memory, of_memory) in memories() {
+        pairs.see(&[of_memory], memory.edition().err());
+    }
+    pairs.end(&[]);
+}
+
 /// Type and marks of an insert into the map with a full mark, mark 10.
 fn types_and_marks() -> Vec<Choice<(u32, &'static [u32])>> {
     vec![
@@ -107,39 +141,80 @@ fn types_and_marks() -> Vec<Choice<(u32, &'static [u32])>> {
         ((TRI, &[3, 3, ABOVE_ALL]), &[8, 9]),
         ((TRI, &[10, 3, ABOVE_ALL]), &[8, 11]),
         ((TRI, &[10, 3, 3]), &[9, 11]),
-        ((BAR, &[20, 10]), &[10, 11]),
+        ((BAR, &[30, 10]), &[10, 11]),
     ]
 }
 
-#[test]
-fn insert_3_4_6_7_8_9_10_11() {
-    let mut pairs = Pairs::in_order(&[14, 3, 4, 6, 7, 8, 9, 10, 11]);
-    let memories: [Choice<Memory>; 2] = [
-        (with_full_mark(), &[]),
-        (Memory::lent(room(200, 200)), &[14]),
-    ];
+/// The same of an insert that would put a third solid on a face: of the marks
+/// 160, 161 and 162, or of the full mark and the marks 165 and 166.
+fn third_solids() -> Vec<Choice<(u32, &'static [u32])>> {
+    vec![
+        ((TETRA, &[170, 162, 160, 161]), &[19]),
+        ((PYRA, &[160, 170, 171, 161, 162]), &[19]),
+        ((PENTA, &[170, 171, 172, 162, 161, 160]), &[19]),
+        ((TETRA, &[160, 161, 162, 170, 171]), &[7, 19]),
+        ((TETRA, &[160, 161, 162, ABOVE_ALL]), &[8, 19]),
+        ((TETRA, &[160, 161, 162, 160]), &[9, 19]),
+        ((TETRA, &[163, 162, 161, 160]), &[10, 19]),
+        ((TETRA, &[10, 165, 166, 170]), &[19, 11]),
+        ((TETRA, &[166, 165, 10, 167]), &[10, 19, 11]),
+    ]
+}
+
+/// Calls an insert into the memory, and into memory without a mesh, of each
+/// cell number, type and marks.
+fn over_inserts(
+    pairs: &mut Pairs,
+    full: Memory,
+    types_and_marks: &[Choice<(u32, &'static [u32])>],
+) {
+    let memories: [Choice<Memory>; 2] = [(full, &[]), (Memory::lent(room(200, 200)), &[14])];
     let cells: [Choice<u32>; 4] = [(150, &[]), (200, &[3]), (ABOVE_ALL, &[3]), (0, &[4])];
     for (memory, of_memory) in &memories {
         for (cell, of_cell) in cells {
-            for ((code, marks), of_marks) in types_and_marks() {
+            for ((code, marks), of_marks) in types_and_marks {
                 let faults = [of_cell, of_marks].concat();
-                let needs_live_cell = faults.iter().any(|fault| [4, 10, 11].contains(fault));
-                if !memory.whole() && needs_live_cell {
+                let needs_live_cell = faults.iter().any(|fault| [4, 10, 19, 11].contains(fault));
+                if memory.mesh.is_none() && needs_live_cell {
                     continue;
                 }
                 let mut after = memory.clone();
-                let answer = after.insert(cell, code, marks);
+                let answer = after.insert(cell, *code, marks);
                 assert_eq!(after == *memory, answer.is_err());
                 pairs.see(&[of_memory, of_cell, of_marks], answer.err());
             }
         }
     }
+}
+
+#[test]
+fn insert_3_4_6_7_8_9_10_11() {
+    let mut pairs = Pairs::in_order(&[14, 3, 4, 6, 7, 8, 9, 10, 11]);
+    over_inserts(&mut pairs, with_full_mark(), &types_and_marks());
     pairs.end(&[
         (14, 4, NO_LIVE_CELL),
         (14, 10, NO_LIVE_CELL),
         (14, 11, NO_LIVE_CELL),
         (3, 4, LIVE_IS_BELOW),
         (6, 10, NO_CELL_OF_IT),
+        (8, 10, LIVE_MARKS_ARE_BELOW),
+        (9, 10, LIVE_MARKS_DIFFER),
+    ]);
+}
+
+#[test]
+fn insert_under_edition_2_3_4_6_7_8_9_10_19_11() {
+    let mut pairs = Pairs::in_order(&[14, 3, 4, 6, 7, 8, 9, 10, 19, 11]);
+    let inserts = [types_and_marks(), third_solids()].concat();
+    over_inserts(&mut pairs, with_full_face(), &inserts);
+    pairs.end(&[
+        (14, 4, NO_LIVE_CELL),
+        (14, 10, NO_LIVE_CELL),
+        (14, 19, NO_LIVE_CELL),
+        (14, 11, NO_LIVE_CELL),
+        (3, 4, LIVE_IS_BELOW),
+        (6, 10, NO_CELL_OF_IT),
+        (6, 19, NO_FACE_OF_IT),
         (8, 10, LIVE_MARKS_ARE_BELOW),
         (9, 10, LIVE_MARKS_DIFFER),
     ]);
@@ -168,7 +243,20 @@ fn after_the_number() -> Vec<Choice<&'static [u32]>> {
         (&[TRI, 3, 3, ABOVE_ALL], &[8, 9]),
         (&[TRI, 10, 3, ABOVE_ALL], &[8, 11]),
         (&[TRI, 10, 3, 3], &[9, 11]),
-        (&[BAR, 20, 10], &[10, 11]),
+        (&[BAR, 30, 10], &[10, 11]),
+    ]
+}
+
+/// The same of a third solid on a face.
+fn third_solids_after_the_number() -> Vec<Choice<&'static [u32]>> {
+    vec![
+        (&[TETRA, 160, 161, 162, 170], &[19]),
+        (&[PYRA, 160, 170, 171, 161, 162], &[19]),
+        (&[TETRA, 160, 161, 162], &[7, 19]),
+        (&[TETRA, 160, 161, 162, ABOVE_ALL], &[8, 19]),
+        (&[TETRA, 160, 161, 162, 160], &[9, 19]),
+        (&[TETRA, 163, 162, 161, 160], &[10, 19]),
+        (&[TETRA, 10, 165, 166, 170], &[19, 11]),
     ]
 }
 
@@ -195,8 +283,6 @@ fn build_1_2_then_a_records_7_3_4_6_7_8_9_10_11() {
             }
         }
     }
-    const NO_CODE: &str = "a record without its code has no type and no marks";
-    const TOO_FEW: &str = "a record cut short has fewer marks than a live cell of its type";
     pairs.end(&[
         (MISSING, 6, NO_CODE),
         (MISSING, 7, NO_CODE),
@@ -206,6 +292,54 @@ fn build_1_2_then_a_records_7_3_4_6_7_8_9_10_11() {
         (MISSING, 11, NO_CODE),
         (3, 4, LIVE_IS_BELOW),
         (6, 10, NO_CELL_OF_IT),
+        (7, 10, TOO_FEW),
+        (8, 10, LIVE_MARKS_ARE_BELOW),
+        (9, 10, LIVE_MARKS_DIFFER),
+    ]);
+}
+
+const NO_CODE: &str = "a record without its code has no type and no marks";
+const TOO_FEW: &str = "a record cut short has fewer marks than a live cell of its type";
+
+/// The same under edition 2, after the 131 of the full mark and the full faces.
+#[test]
+fn build_edition_6_1_2_then_a_records_7_3_4_6_7_8_9_10_19_11() {
+    let order = &[EDITION, 1, 2, MISSING, 3, 4, 6, 7, 8, 9, 10, 19, 11];
+    let mut pairs = Pairs::in_order(order);
+    let mut before = Vec::new();
+    for (cell, code, marks) in full_face_records() {
+        before.extend(words(&[(cell, code, &marks)]));
+    }
+    let numbers: [Choice<u32>; 3] = [(150, &[]), (ABOVE_ALL, &[3]), (0, &[4])];
+    let records = [after_the_number(), third_solids_after_the_number()].concat();
+    for ((marks, cells, words), of_memory) in lent_for_200() {
+        for (edition, of_edition) in editions() {
+            for (cell, of_cell) in numbers {
+                for (record, of_record) in &records {
+                    let mut memory = Memory::lent(words);
+                    let records = [&before, &[cell][..], record].concat();
+                    let answer = memory.build_edition(marks, cells, edition, &records);
+                    let read = of_edition.is_empty() && of_memory.is_empty();
+                    let place = if read { 131 } else { 0 };
+                    assert_eq!(answer.err().map_or(place, |(_, place)| place), place);
+                    assert_eq!(memory.mesh.is_some(), read);
+                    let refusal = answer.err().map(|(refusal, _)| refusal);
+                    pairs.see(&[of_edition, of_memory, of_cell, of_record], refusal);
+                }
+            }
+        }
+    }
+    pairs.end(&[
+        (MISSING, 6, NO_CODE),
+        (MISSING, 7, NO_CODE),
+        (MISSING, 8, NO_CODE),
+        (MISSING, 9, NO_CODE),
+        (MISSING, 10, NO_CODE),
+        (MISSING, 19, NO_CODE),
+        (MISSING, 11, NO_CODE),
+        (3, 4, LIVE_IS_BELOW),
+        (6, 10, NO_CELL_OF_IT),
+        (6, 19, NO_FACE_OF_IT),
         (7, 10, TOO_FEW),
         (8, 10, LIVE_MARKS_ARE_BELOW),
         (9, 10, LIVE_MARKS_DIFFER),

@@ -4,7 +4,7 @@
 mod common;
 
 use common::answers::answers;
-use common::maps::{formatted, PLENTY};
+use common::maps::{formatted_edition, PLENTY};
 use common::random::{insert_by_chance, map_by_chance, Random};
 use second::map::{self, Cell, HalfFacet, LiveCell, Mark};
 use second::Memory;
@@ -12,10 +12,18 @@ use second::Memory;
 const CELLS: u32 = 14;
 const MAPS: u32 = 40;
 
-/// From few marks, where nearly all is shared, to some more.
+/// From few marks, where nearly all is shared, to some more; every third under
+/// edition 2.
 fn maps(seed: u64) -> impl Iterator<Item = Memory> {
     let mut random = Random::from_seed(seed);
-    (0..MAPS).map(move |map| map_by_chance(&mut random, 5 + map % 5, CELLS))
+    (0..MAPS).map(move |map| map_by_chance(&mut random, 5 + map % 5, CELLS, edition(map)))
+}
+
+fn edition(map: u32) -> u32 {
+    match map % 3 {
+        0 => 2,
+        _ => 1,
+    }
 }
 
 fn marks(memory: &Memory) -> u32 {
@@ -227,13 +235,13 @@ fn the_order_of_the_list_of_cells_does_not_matter() {
 
 /// "every query answers as that definition does over the cells those edits
 /// leave live, so as a mesh of the same capacities built afresh from them in
-/// any order"
+/// any order"; "Demand 3 compares with a mesh of the same edition."
 #[test]
 fn edits_answer_as_a_mesh_built_afresh_in_any_order() {
     let mut random = Random::from_seed(8);
     let (mut refused, mut accepted) = (0, 0);
     for map in 0..20 {
-        let mut memory = formatted(5 + map % 5, CELLS);
+        let mut memory = formatted_edition(5 + map % 5, CELLS, edition(map));
         for _ in 0..60 {
             let answer = match random.below(3) {
                 0 => memory.remove(random.below(CELLS as usize + 1) as u32),
@@ -247,7 +255,8 @@ fn edits_answer_as_a_mesh_built_afresh_in_any_order() {
         }
         let mut afresh = memory.clone();
         let records = shuffled_records(&mut random, &memory);
-        assert_eq!(afresh.build(marks(&memory), CELLS, &records), Ok(()));
+        let built = afresh.build_edition(marks(&memory), CELLS, edition(map), &records);
+        assert_eq!(built, Ok(()));
         assert_eq!(answers(&afresh), answers(&memory));
     }
     assert!(accepted > 200 && refused > 200, "{accepted} {refused}");

@@ -139,6 +139,24 @@ fn refusal_6_an_unknown_type_or_dimension() {
 }
 
 #[test]
+fn refusal_6_another_edition() {
+    let memory = p2();
+    // 257 and 258 cut to 8 bits would be 1 and 2.
+    for edition in [0, 3, 257, 258, u32::MAX] {
+        let mut memory = memory.clone();
+        assert_eq!(number(memory.format_edition(6, 4, edition)), 6);
+        let built = memory.build_edition(6, 4, edition, &[0, BAR, 0, 1]);
+        assert_eq!(at_place(built), (6, 0));
+    }
+    for edition in [1, 2] {
+        let mut memory = memory.clone();
+        assert_eq!(number(memory.format_edition(6, 4, edition)), 0);
+        let built = memory.build_edition(6, 4, edition, &[0, BAR, 0, 1]);
+        assert_eq!(at_place(built), (0, 0));
+    }
+}
+
+#[test]
 fn refusal_7_a_wrong_count_of_marks() {
     let all = [0, 1, 2, 3, 4, 5, 6, 7, 8];
     let types = [
@@ -313,6 +331,7 @@ fn refusal_14_memory_is_not_a_mesh() {
         assert_eq!(number(memory.lookup(&[0])), 14);
         assert_eq!(number(memory.cells_of_type(TRI, PLENTY)), 14);
         assert_eq!(number(memory.count_of_type(TRI)), 14);
+        assert_eq!(number(memory.edition()), 14);
         assert_eq!(number(memory.insert(3, TRI, &[0, 1, 2])), 14);
         assert_eq!(number(memory.remove(0)), 14);
         assert_eq!(memory.marks_of(0), []);
@@ -334,4 +353,21 @@ fn format_and_build_need_no_mesh() {
 #[test]
 fn refusal_15_a_bad_frame() {
     assert_eq!(second::frames::run(b"\n"), b"0f\n");
+}
+
+#[test]
+fn refusal_19_a_third_solid_on_a_face_under_edition_2() {
+    let solids: [Record; 3] = [
+        (0, TETRA, &[0, 1, 2, 3]),
+        (1, TETRA, &[0, 1, 2, 4]),
+        (2, TETRA, &[0, 1, 2, 5]),
+    ];
+    for (edition, due) in [(1, 0), (2, 19)] {
+        let mut memory = formatted_edition(6, 4, edition);
+        assert_eq!(number(memory.insert(0, TETRA, solids[0].2)), 0);
+        assert_eq!(number(memory.insert(1, TETRA, solids[1].2)), 0);
+        assert_eq!(number(memory.insert(2, TETRA, solids[2].2)), due);
+        let built = at_place(memory.build_edition(6, 4, edition, &words(&solids)));
+        assert_eq!(built, (due, if due == 0 { 0 } else { 2 }));
+    }
 }

@@ -10,7 +10,8 @@ use second::{room, Memory, Mesh, Refusal};
 #[test]
 fn a_refused_edit_changes_nothing() {
     type Edit = fn(&mut Memory) -> Result<(), Refusal>;
-    let edits: [(Edit, Refusal); 12] = [
+    let edits: [(Edit, Refusal); 14] = [
+        (|it| it.format_edition(6, 4, 3), Refusal::TypeUnknown),
         (|it| it.format(65_536, 4), Refusal::CapacityAbove),
         (|it| it.format(6, 300), Refusal::MemoryShort),
         (|it| it.insert(200, TRI, &[3, 4, 5]), Refusal::CellOutside),
@@ -20,11 +21,15 @@ fn a_refused_edit_changes_nothing() {
         (|it| it.insert(150, TRI, &[3, 4, 200]), Refusal::MarkOutside),
         (|it| it.insert(150, TRI, &[3, 4, 3]), Refusal::MarkTwice),
         (|it| it.insert(150, TRI, &[1, 2, 0]), Refusal::CellSame),
+        (
+            |it| it.insert(150, TETRA, &[160, 161, 162, 3]),
+            Refusal::FaceFull,
+        ),
         (|it| it.insert(150, TRI, &[3, 10, 4]), Refusal::MarkFull),
         (|it| it.remove(200), Refusal::CellOutside),
         (|it| it.remove(150), Refusal::CellNotLive),
     ];
-    let before = with_full_mark();
+    let before = with_full_face();
     for (edit, refusal) in edits {
         let mut memory = before.clone();
         assert_eq!(edit(&mut memory), Err(refusal));
@@ -61,7 +66,7 @@ fn a_build_refused_at_a_record_leaves_an_empty_formatted_mesh() {
             let refused = memory.build(5, 4, &records);
             assert_eq!(refused, Err((Refusal::TypeUnknown, place)));
             assert_eq!(memory.words, room(6, 4));
-            assert_eq!(memory.mesh, Some(Mesh::formatted(5, 4)));
+            assert_eq!(memory.mesh, Some(Mesh::formatted(5, 4, 1)));
             assert!(memory.whole());
             assert_eq!(answers(&memory), answers(&formatted(5, 4)));
         }

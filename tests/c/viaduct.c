@@ -38,6 +38,13 @@ static const uint32_t many[] = {12, 13, 14, 15, 16};
 
 static const uint32_t cut_short[] = {0, MK_TRI_3, 0, 1, 2, 1, MK_TRI_3, 0, 2};
 
+/* three solids on the face between the block and the pier */
+static const uint32_t third[] = {
+    10, MK_HEXA_8, 12, 13, 14, 15, 16, 17, 18, 19, /* */
+    11, MK_PYRA_5, 16, 17, 18, 19, 5,              /* */
+    12, MK_PYRA_5, 16, 18, 17, 19, 11,             /* */
+};
+
 static uint32_t mesh[WORDS];
 static uint32_t list[PLACES];
 
@@ -202,11 +209,65 @@ static void build(const uint32_t *from, size_t count)
     printf("\n");
 }
 
+static void build_edition(uint32_t edition, const uint32_t *from, size_t count)
+{
+    uint32_t place = UNWRITTEN;
+    uint8_t refusal = mk_build_edition(mesh, WORDS, MARKS, CELLS, edition, from, count, &place);
+    printf("build edition %u: %u;", edition, refusal);
+    say_number(place);
+    printf("\n");
+}
+
+static void format_edition(uint32_t marks, uint32_t edition)
+{
+    uint8_t refusal = mk_format_edition(mesh, WORDS, marks, CELLS, edition);
+    printf("format edition %u: %u\n", edition, refusal);
+}
+
+static void edition(void)
+{
+    uint32_t number = UNWRITTEN;
+    uint8_t refusal = mk_edition(mesh, WORDS, &number);
+    printf("edition: %u;", refusal);
+    say_number(number);
+    printf("\n");
+}
+
+/* A face lies between two solids at most. */
+static void second_edition(void)
+{
+    const uint32_t other_pier[] = {16, 18, 17, 19, 11};
+
+    edition();
+    format_edition(MARKS, 3);
+    format_edition(65536, 3);
+    format_edition(65536, 2);
+    build_edition(0, records, sizeof records / sizeof records[0]);
+    edition();
+    whole();
+    format_edition(MARKS, 2);
+    edition();
+    build_edition(2, third, sizeof third / sizeof third[0]);
+    edition();
+    whole();
+    build_edition(1, third, sizeof third / sizeof third[0]);
+    edition();
+    build_edition(2, records, sizeof records / sizeof records[0]);
+    edition();
+    say_verdict("insert 9", mk_insert(mesh, WORDS, 9, MK_PYRA_5, other_pier, 5));
+    say_verdict("remove 11", mk_remove(mesh, WORDS, 11));
+    say_verdict("insert 9", mk_insert(mesh, WORDS, 9, MK_PYRA_5, other_pier, 5));
+    all();
+    build(records, sizeof records / sizeof records[0]);
+    edition();
+}
+
 int main(void)
 {
     const uint32_t wall[] = {0, 5, 10};
 
     whole();
+    edition();
     star(2, 0, PLACES);
     say_verdict("format", mk_format(mesh, WORDS - 1, MARKS, CELLS));
     say_verdict("format", mk_format(mesh, WORDS, 65536, CELLS));
@@ -226,5 +287,6 @@ int main(void)
     say_verdict("remove 5", mk_remove(mesh, WORDS, 5));
     say_verdict("insert 9", mk_insert(mesh, WORDS, 9, MK_TRI_3, wall, 3));
     all();
+    second_edition();
     return 0;
 }

@@ -78,6 +78,7 @@ pub fn listed<T: Number>(
 /// A question to a map.
 #[derive(Clone, Debug)]
 pub enum Question {
+    Edition,
     Type(u32),
     Marks(u32),
     Neighbours(u32),
@@ -102,7 +103,7 @@ impl Question {
         let facet = chance.below(7);
         let dimension = chance.below(5);
         let code = chance.below(9);
-        match chance.below(12) {
+        match chance.below(13) {
             0 => Question::Type(cell),
             1 => Question::Marks(cell),
             2 => Question::Neighbours(cell),
@@ -117,6 +118,7 @@ impl Question {
                 Question::Lookup((0..size).map(|_| chance.below(marks + 1)).collect())
             }
             10 => Question::Cells(code),
+            11 => Question::Edition,
             _ => Question::Count(code),
         }
     }
@@ -137,6 +139,7 @@ impl Question {
         let perhaps = |half: Option<Half>| half.map(|half| half.0).into_iter().collect();
         let yes = |yes: bool| vec![u32::from(yes)];
         match *self {
+            Question::Edition => ours(mesh.edition(), one),
             Question::Type(c) => ours(mesh.type_of(Cell(c)), one),
             Question::Marks(c) => ours(mesh.marks_of(Cell(c)), plain),
             Question::Neighbours(c) => listed(762, |out| mesh.neighbours_into(Cell(c), out)),
@@ -159,6 +162,7 @@ impl Question {
         let one = |number: u32| vec![number];
         let perhaps = |half: Option<u32>| half.into_iter().collect();
         match *self {
+            Question::Edition => theirs(memory.edition(), one),
             Question::Type(cell) => theirs(memory.type_of(cell), one),
             // marks are refused where the type is
             Question::Marks(cell) => match memory.type_of(cell) {
@@ -189,7 +193,7 @@ impl Question {
 
 /// The map that the records of well-formed memory tell (docs/LAYOUT.md).
 pub fn told(words: &[u32]) -> Memory {
-    let (marks, cells) = (words[1], words[2]);
+    let (marks, cells, edition) = (words[1], words[2], words[3]);
     let first = 16 + 8 * marks as usize;
     let second = first + 16 * cells as usize;
     let live = (0..cells)
@@ -209,9 +213,11 @@ pub fn told(words: &[u32]) -> Memory {
             })
         })
         .collect();
+    let mut mesh = second::Mesh::formatted(marks, cells, edition);
+    mesh.live = live;
     Memory {
         words: words.len(),
-        mesh: Some(second::Mesh { marks, cells, live }),
+        mesh: Some(mesh),
     }
 }
 

@@ -1,9 +1,9 @@
-// The queries that read a word: type and marks of a cell, sibling, border, first anchor, count of a type, a walker's step.
+// The queries that read a word: type and marks of a cell, sibling, border, first anchor, count of a type, edition, a walker's step.
 //
 // What is here: the public calls, none with a `requires`, and the walker. What is proved: memory that is no mesh is refused with 14; on
 // well-formed memory the answer, with its refusals in the listed order, is that of crates/map/specs/Answers.antt (specs/Asked.antt). What a
 // caller should know: each costs a few words read, whatever the size of the mesh.
-ghost use Rattle.map.specs.Answers.{typeAnswer, siblingAnswer, borderAnswer, firstAnchorAnswer, countAnswer, stepAnswer};
+ghost use Rattle.map.specs.Answers.{typeAnswer, siblingAnswer, borderAnswer, firstAnchorAnswer, countAnswer, editionAnswer, stepAnswer};
 ghost use Rattle.map.specs.Says.{valueSays, halfSays, truthSays, foundSays};
 ghost use Rattle.ask.specs.Asked.{Asked, HandedMarks};
 ghost use Rattle.ask.specs.Steps.{stepSays};
@@ -25,9 +25,11 @@ use numbers::Mark;
 use numbers::cell_of;
 use numbers::facet_of;
 use numbers::half_of;
+use store::Opened;
 use store::anchor_of;
 use store::code_of;
 use store::count_of;
+use store::open;
 use store::sibling_of;
 use words::part;
 
@@ -100,6 +102,16 @@ pub fn count_of_type(w: &[u32], t: u32) -> Value
     match about_type(w, t) {
         Opening::Refused(why) => Value::Refused(why),
         Opening::Open(caps) => Value::Is(count_of(w, caps, t)),
+    }
+}
+
+// The edition that the mesh was formatted under.
+pub fn edition(w: &[u32]) -> Value
+    ensures { λ r. ⌜ Asked valueSays noValue (now (w .entry)) editionAnswer r ⌝ }
+{
+    match open(w) {
+        Opened::Nothing => Value::Refused(Refusal::NotMesh),
+        Opened::Mesh(caps) => Value::Is(caps.edition),
     }
 }
 

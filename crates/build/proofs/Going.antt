@@ -11,7 +11,7 @@ use Rattle.lists.specs.Lists.{select}
 use Rattle.lists.proofs.Select.{select-size}
 use Rattle.lists.proofs.Counts.{select-none, select-more}
 use Rattle.numbers.specs.Room.{room}
-use Rattle.numbers.specs.Sizes.{mostCapacity, capacities}
+use Rattle.numbers.specs.Sizes.{mostCapacity, capsUnder}
 use Rattle.numbers.specs.declared.Caps.{Caps}
 use Rattle.words.specs.Words.{Only}
 use Rattle.words.proofs.Frame.{only-none, only-then}
@@ -135,10 +135,10 @@ module _ (caps : Caps) (records : List ℕ) where
 
     -- a record refused, and the memory formatted again
     pub build-stopped : (why : Refusal) (place : ℕ) → build caps records ≡ record { refusal = numberOf why; place = place; map = empty caps }
-        → (w w′ : List ℕ) → Only (λ i. i < room (caps .marks) (caps .cells)) w₁ w → (again : Verdict) (n k : ℕ) → Formatted w (capacities n k) again w′
-        → n ≡ caps .marks → k ≡ caps .cells → (p : ℕ) → p ≡ place → Builds w₀ caps records (Built′.Refused why p) w′
+        → (w w′ : List ℕ) → Only (λ i. i < room (caps .marks) (caps .cells)) w₁ w → (again : Verdict) (i n k : ℕ) → Formatted w (capsUnder i n k) again w′
+        → i ≡ caps .edition → n ≡ caps .marks → k ≡ caps .cells → (p : ℕ) → p ≡ place → Builds w₀ caps records (Built′.Refused why p) w′
     unfolding placed builtSays
-    build-stopped why place stops w w′ inside again n k second en ek p ep = record {
+    build-stopped why place stops w w′ inside again i n k second ei en ek p ep = record {
       says = rw (outcome-says _ stops, ep, ne-eqb (numberOf why) 0 (λ n. omega (arith, number-some why)));
       kept = λ n. absurd (n formatted);
       inside = only-then (f .inside) (only-then inside (anew .inside));
@@ -149,7 +149,7 @@ module _ (caps : Caps) (records : List ℕ) where
         size = inside .size ∙ f .inside .size
 
         anew : Formatted w caps again w′
-        anew = rw (en, ek) at second
+        anew = rw (ei, en, ek) at second
 
         says : verdictSays again ≡ verdictSays Accepted
         says = anew .says ∙ (rw size (sym accepted))

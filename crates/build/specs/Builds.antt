@@ -14,7 +14,7 @@ use Rattle.map.specs.Says.{builtSays}
 use Rattle.map.specs.declared.Built.{Built}
 use Rattle.picture.specs.Picture.{Wf}
 
--- a refused build gives the place of its record; "Refusals 1 and 2 come with place 0"
+-- a refused build gives the place of its record; "Refusals 1 and 2 come with place 0", and 6 for an edition "like it"
 unfoldable pub placed : ℕ → ℕ → Answer
 placed refusal place = record { refusal = refusal; values = cond (eqb refusal 0) [] (place ∷ []) }
 
@@ -29,8 +29,8 @@ buildAnswer words caps records =
 
 pub record Builds (w : List ℕ) (caps : Caps) (records : List ℕ) (r : Built) (w′ : List ℕ) : Type 0 where
   pub says : builtSays r ≡ buildAnswer (length w) caps records
-  -- "Refusals 1 and 2 .. change nothing"
+  -- "Refusals 1 and 2 .. change nothing", nor does 6 for an edition
   pub kept : (formatRefusal (length w) caps ≡ 0 → ⊥) → w′ ≡ w
   pub inside : Only (λ i. i < room (caps .marks) (caps .cells)) w w′
-  -- the built mesh, or the formatted mesh with no live cell
+  -- the built mesh, or the formatted mesh of that edition with no live cell
   pub wf : formatRefusal (length w) caps ≡ 0 → Wf w′ (build caps records .map)

@@ -1,22 +1,23 @@
 // A whole mesh from a list of records.
 //
-// What is here: `build` formats the memory and inserts the records one after another; a record is a cell's number, a type and that type's
-// marks. It has no `requires`. What is proved: the answer of the outline, with the place of the first refused record; a build that its
-// format refuses changes nothing; nothing beyond the room changes; the memory left is the well-formed one of the built mesh, or of the
-// mesh with no live cell (specs/Builds.antt). What a caller should know: a record cut off at the end is refused with 7 unless a check
-// before that one fails, and a refused build formats once more.
+// What is here: `build_edition` formats the memory and inserts the records one after another; a record is a cell's number, a type and that
+// type's marks. `build` does so under edition 1. They have no `requires`. What is proved: the answer of the outline, with the place of the
+// first refused record; a build that its format refuses changes nothing; nothing beyond the room changes; the memory left is the
+// well-formed one of the built mesh, or of the mesh of that edition with no live cell (specs/Builds.antt). What a caller should know: a
+// record cut off at the end is refused with 7 unless a check before that one fails, and a refused build formats once more.
 ghost use mathlib.Core.Path.{_≡_};
 ghost use Prim.Native.Nat.{_+_, min};
 ghost use lib.ListN.{length};
-ghost use Rattle.numbers.specs.Sizes.{capacities};
+ghost use Rattle.numbers.specs.Sizes.{capsUnder, capacities};
 ghost use Rattle.build.specs.Builds.{Builds};
 ghost use Rattle.build.specs.Recorded.{width, Recorded};
-use format::format;
+use format::format_edition;
 use map::Built;
 use map::Refusal;
 use map::Verdict;
 use mesh::insert;
 use numbers::Cell;
+use numbers::FIRST_EDITION;
 use shapes::mark_count;
 use words::part;
 use words::word;
@@ -52,11 +53,11 @@ fn one_record(w: &mut [u32], records: &[u32], at: usize, end: usize) -> Verdict
     insert(w, Cell(c), t, marks)
 }
 
-// A mesh of these capacities with the cells of the records.
-pub fn build(w: &mut [u32], marks: u32, cells: u32, records: &[u32]) -> Built
-    ensures { λ r. ⌜ Builds (now (w .entry)) (capacities marks cells) (now (records .entry)) r (now (w .exit)) ⌝ }
+// A mesh of these capacities and this edition with the cells of the records.
+pub fn build_edition(w: &mut [u32], marks: u32, cells: u32, edition: u32, records: &[u32]) -> Built
+    ensures { λ r. ⌜ Builds (now (w .entry)) (capsUnder edition marks cells) (now (records .entry)) r (now (w .exit)) ⌝ }
 {
-    if let Verdict::Refused(why) = format(w, marks, cells) {
+    if let Verdict::Refused(why) = format_edition(w, marks, cells, edition) {
         return Built::Refused(why, 0);
     }
     let mut at: usize = 0;
@@ -64,11 +65,18 @@ pub fn build(w: &mut [u32], marks: u32, cells: u32, records: &[u32]) -> Built
     while at < records.len() {
         let end = record_end(records, at);
         if let Verdict::Refused(why) = one_record(w, records, at, end) {
-            format(w, marks, cells);
+            format_edition(w, marks, cells, edition);
             return Built::Refused(why, place);
         }
         at = end;
         place += 1;
     }
     Built::Accepted
+}
+
+// A mesh of these capacities with the cells of the records, under edition 1.
+pub fn build(w: &mut [u32], marks: u32, cells: u32, records: &[u32]) -> Built
+    ensures { λ r. ⌜ Builds (now (w .entry)) (capacities marks cells) (now (records .entry)) r (now (w .exit)) ⌝ }
+{
+    build_edition(w, marks, cells, FIRST_EDITION, records)
 }

@@ -6,12 +6,14 @@ use ask::Step;
 use ask::Walker;
 use ask::border;
 use ask::count_of_type;
+use ask::edition;
 use ask::first_anchor;
 use ask::marks_of;
 use ask::sibling;
 use ask::type_of;
-use build::build;
+use build::build_edition;
 use format::format;
+use format::format_edition;
 use libc::STDOUT_FILENO;
 use listing::anchors;
 use listing::cells_of_type;
@@ -30,7 +32,9 @@ use map::number_of;
 use mesh::insert;
 use mesh::remove;
 use numbers::Cell;
+use numbers::FIRST_EDITION;
 use numbers::Mark;
+use numbers::SECOND_EDITION;
 use numbers::half_of;
 use whole::whole;
 use words::part;
@@ -43,8 +47,9 @@ const CELLS: u32 = 4;
 
 // How many cases there are. P1 to P12 are the outline's. R13 on are runs besides: a cell that comes back; quads with a triangle and a
 // bar; a mesh emptied again; a record cut short; edits that are all refused; request 3's two quads that only look joined, and two that
-// share two edges; a pyramid with a tetrahedron and a quad on its faces.
-const CASES: usize = 20;
+// share two edges; a pyramid with a tetrahedron and a quad on its faces; R26 and R27, under edition 2, an edge with many faces and a build
+// refused at the third solid on a face. R21 to R25 have no records.
+const CASES: usize = 27;
 
 // How many words the records of each case have, and the records, padded with 0.
 const SIZES: [u32; CASES] = [
@@ -67,6 +72,13 @@ const SIZES: [u32; CASES] = [
     5,
     12,
     12,
+    19,
+    0,
+    0,
+    0,
+    0,
+    0,
+    15,
     19,
 ];
 
@@ -91,14 +103,22 @@ const BUILT: [[u32; 20]; CASES] = [
     [0, 3, 0, 1, 2, 3, 1, 3, 0, 4, 1, 2, 0, 0, 0, 0, 0, 0, 0, 0],
     [0, 3, 0, 1, 2, 3, 1, 3, 0, 1, 2, 4, 0, 0, 0, 0, 0, 0, 0, 0],
     [0, 5, 0, 1, 2, 3, 4, 1, 4, 0, 1, 4, 2, 2, 3, 0, 1, 2, 3, 0],
+    [0, 0, 0, 0, 0, 0, 0, 0, 0, 0, 0, 0, 0, 0, 0, 0, 0, 0, 0, 0],
+    [0, 0, 0, 0, 0, 0, 0, 0, 0, 0, 0, 0, 0, 0, 0, 0, 0, 0, 0, 0],
+    [0, 0, 0, 0, 0, 0, 0, 0, 0, 0, 0, 0, 0, 0, 0, 0, 0, 0, 0, 0],
+    [0, 0, 0, 0, 0, 0, 0, 0, 0, 0, 0, 0, 0, 0, 0, 0, 0, 0, 0, 0],
+    [0, 0, 0, 0, 0, 0, 0, 0, 0, 0, 0, 0, 0, 0, 0, 0, 0, 0, 0, 0],
+    [0, 2, 0, 1, 2, 1, 2, 0, 1, 3, 2, 2, 0, 1, 4, 0, 0, 0, 0, 0],
+    [0, 4, 0, 1, 2, 3, 1, 4, 0, 2, 1, 4, 2, 5, 0, 1, 3, 4, 2, 0],
 ];
 
 // Cases with more marks, behind those, made by inserts: a brick on a brick; a wedge between a brick and a pyramid, a tetrahedron on its
-// end; faces in crossed order; the wedge taken away.
+// end; faces in crossed order; the wedge taken away; under edition 2, a third solid on a face in crossed order, on a triangle and on a quad,
+// refused and, after a removal, accepted.
 const SOLID_MARKS: u32 = 12;
 
 // The edits after the builds, in order: case, 1 for an insert and 0 for a removal, cell, type, how many marks, the marks.
-const EDITS: usize = 33;
+const EDITS: usize = 50;
 
 const EDITED: [[u32; 13]; EDITS] = [
     [9, 0, 1, 0, 0, 0, 0, 0, 0, 0, 0, 0, 0],
@@ -134,6 +154,23 @@ const EDITED: [[u32; 13]; EDITS] = [
     [24, 1, 2, 5, 5, 2, 8, 9, 6, 10, 0, 0, 0],
     [24, 1, 3, 4, 4, 1, 2, 8, 11, 0, 0, 0, 0],
     [24, 0, 1, 0, 0, 0, 0, 0, 0, 0, 0, 0, 0],
+    [26, 1, 3, 3, 4, 0, 1, 2, 3, 0, 0, 0, 0],
+    [28, 1, 0, 7, 8, 0, 1, 2, 3, 4, 5, 6, 7],
+    [28, 1, 1, 7, 8, 4, 6, 5, 7, 8, 9, 10, 11],
+    [28, 1, 2, 5, 5, 7, 4, 6, 5, 8, 0, 0, 0],
+    [29, 1, 0, 4, 4, 0, 1, 2, 3, 0, 0, 0, 0],
+    [29, 1, 1, 5, 5, 0, 1, 4, 5, 2, 0, 0, 0],
+    [29, 1, 2, 6, 6, 2, 0, 1, 6, 7, 8, 0, 0],
+    [29, 1, 2, 2, 3, 0, 1, 2, 0, 0, 0, 0, 0],
+    [29, 0, 0, 0, 0, 0, 0, 0, 0, 0, 0, 0, 0],
+    [29, 1, 3, 6, 6, 2, 0, 1, 6, 7, 8, 0, 0],
+    [30, 1, 0, 7, 8, 0, 1, 2, 3, 4, 5, 6, 7],
+    [30, 1, 1, 6, 6, 1, 2, 8, 5, 6, 9, 0, 0],
+    [30, 1, 2, 5, 5, 6, 1, 5, 2, 10, 0, 0, 0],
+    [30, 1, 2, 7, 8, 7, 6, 5, 4, 3, 2, 1, 0],
+    [30, 0, 0, 0, 0, 0, 0, 0, 0, 0, 0, 0, 0],
+    [30, 1, 2, 5, 5, 6, 1, 5, 2, 10, 0, 0, 0],
+    [30, 1, 0, 7, 8, 0, 1, 2, 3, 4, 5, 6, 7],
 ];
 
 fn size(p: u32) -> u32 {
@@ -411,6 +448,13 @@ fn about_sets(w: &[u32], p: u32) {
     }
 }
 
+fn about_edition(w: &[u32], p: u32) {
+    say_case(p);
+    say(b" edition:");
+    say_value(edition(w));
+    say(b"\n");
+}
+
 fn about_whole(w: &[u32], p: u32) {
     say_case(p);
     if whole(w) {
@@ -429,6 +473,7 @@ fn everything(w: &[u32], p: u32) {
     about_set(w, p, &[]);
     about_set(w, p, &[1, 0, 1]);
     about_set(w, p, &[0, 1, 2, 3, 4]);
+    about_edition(w, p);
     about_whole(w, p);
 }
 
@@ -455,6 +500,7 @@ fn of_solids(w: &[u32], p: u32) {
     about_solid_marks(w, p);
     about_types(w, p);
     about_faces(w, p);
+    about_edition(w, p);
     about_whole(w, p);
 }
 
@@ -499,34 +545,43 @@ fn try_edits(w: &mut [u32], p: u32) {
     }
 }
 
-fn run_case(w: &mut [u32], p: u32) {
+fn run_case(w: &mut [u32], p: u32, e: u32) {
     let row = records(p);
     let n = size(p);
     say_case(p);
     say(b" build:");
-    say_built(build(w, MARKS, CELLS, part(&row, 0, n as usize)));
+    say_built(build_edition(w, MARKS, CELLS, e, part(&row, 0, n as usize)));
     say(b"\n");
     try_edits(w, p);
     everything(w, p);
 }
 
-fn one_case(p: u32) {
+fn one_case(p: u32, e: u32) {
     let mut w = [0u32; 184];
-    run_case(&mut w, p);
+    run_case(&mut w, p, e);
 }
 
-fn run_solids(w: &mut [u32], p: u32) {
+fn run_solids(w: &mut [u32], p: u32, e: u32) {
     say_case(p);
     say(b" build:");
-    say_built(build(w, SOLID_MARKS, CELLS, &[]));
+    say_built(build_edition(w, SOLID_MARKS, CELLS, e, &[]));
     say(b"\n");
     try_edits(w, p);
     of_solids(w, p);
 }
 
-fn solids(p: u32) {
+fn solids(p: u32, e: u32) {
     let mut w = [0u32; 240];
-    run_solids(&mut w, p);
+    run_solids(&mut w, p, e);
+}
+
+// Two solids at most on a face.
+fn limited() {
+    one_case(26, SECOND_EDITION);
+    one_case(27, SECOND_EDITION);
+    solids(28, SECOND_EDITION);
+    solids(29, SECOND_EDITION);
+    solids(30, SECOND_EDITION);
 }
 
 // Memory that is no mesh.
@@ -573,6 +628,37 @@ fn formats() {
     above_most(&mut w);
     let mut head = [0u32; 16];
     try_room(&mut head, 0, 0);
+}
+
+fn try_edition(w: &mut [u32], marks: u32, cells: u32, e: u32) {
+    say(b"bound format");
+    say_size(w.len());
+    say(b" words");
+    say_number(marks);
+    say_number(cells);
+    say(b" edition");
+    say_number(e);
+    say(b":");
+    say_verdict(format_edition(w, marks, cells, e));
+    say(b"\n");
+}
+
+fn one_edition(marks: u32, cells: u32, e: u32) {
+    let mut w = [0u32; 184];
+    try_edition(&mut w, marks, cells, e);
+}
+
+// "6 for another edition, before 1 and like it"
+fn editions() {
+    one_edition(MARKS, CELLS, 0);
+    one_edition(MARKS, CELLS, 1);
+    one_edition(MARKS, CELLS, 2);
+    one_edition(MARKS, CELLS, 3);
+    one_edition(MARKS, CELLS, 258);
+    one_edition(65536, 0, 2);
+    one_edition(65536, 0, 3);
+    one_edition(65535, 65535, 2);
+    one_edition(65535, 65535, 3);
 }
 
 // A bar from mark 0 to the mark of the cell's number and one.
@@ -670,13 +756,15 @@ fn full_mark() {
 
 fn main() {
     for p in 1..21 {
-        one_case(p);
+        one_case(p, FIRST_EDITION);
     }
-    solids(21);
-    solids(22);
-    solids(23);
-    solids(24);
+    solids(21, FIRST_EDITION);
+    solids(22, FIRST_EDITION);
+    solids(23, FIRST_EDITION);
+    solids(24, FIRST_EDITION);
     no_mesh();
+    limited();
     formats();
+    editions();
     full_mark();
 }

@@ -10,7 +10,7 @@ use Rattle.numbers.specs.declared.Caps.{Caps}
 use Rattle.numbers.specs.Sizes.{mostCapacity}
 use Rattle.store.specs.declared.Opened.the-variants.{Mesh, Nothing}
 use Rattle.store.specs.Layout.{room, magic}
-use Rattle.store.specs.Fields.{Magic, MarkCap, CellCap}
+use Rattle.store.specs.Fields.{Magic, MarkCap, CellCap, Edition}
 use Rattle.store.specs.Slots.{InHead, address, read}
 use Rattle.store.specs.Open.{headIn, capsIn, isMesh, opened}
 use Rattle.map.specs.Cells.{Map}
@@ -48,6 +48,10 @@ module _ (w : List ℕ) where
     unfolding headIn read address wordOf headWord
     head-cells = wf .picture .words (InHead CellCap) (omega arith)
 
+    pub head-edition : headIn w Edition ≡ m .caps .edition
+    unfolding headIn read address wordOf headWord
+    head-edition = wf .picture .words (InHead Edition) (omega arith)
+
     pub wf-mesh : isMesh w ≡ true
     unfolding isMesh room
     wf-mesh =
@@ -56,6 +60,8 @@ module _ (w : List ℕ) where
           eq-eqb (headIn w Magic) magic head-magic,
           head-marks,
           head-cells,
+          head-edition,
+          wf .picture .edition,
           le-leb (m .caps .marks) mostCapacity (wf .picture .marks),
           le-leb (m .caps .cells) mostCapacity (wf .picture .cells),
           le-leb (room (m .caps .marks) (m .caps .cells)) (length w) (wf .picture .fits),
@@ -63,4 +69,4 @@ module _ (w : List ℕ) where
 
     pub wf-caps : (caps : Caps) → Mesh caps ≡ opened w → m .caps ≡ caps
     unfolding capsIn
-    wf-caps caps e = rw (← head-marks, ← head-cells) (sym (mesh-opened caps e .1))
+    wf-caps caps e = rw (← head-marks, ← head-cells, ← head-edition) (sym (mesh-opened caps e .1))

@@ -19,7 +19,7 @@ use Rattle.shapes.specs.Table.{table}
 use Rattle.numbers.specs.declared.Caps.{Caps}
 use Rattle.map.specs.Cells.{Body, Map, holds, facetsAt, cellsOf}
 use Rattle.map.specs.Siblings.{isHalf, marksOf, sibling}
-use Rattle.map.specs.Sound.{Sound}
+use Rattle.map.specs.Sound.{Sound, TwoSolids}
 use Rattle.laws.proofs.Local.{Apart, Free, OneMore, half-other, sibling-other, anchors-free, more-free, apart-back}
 use Rattle.laws.proofs.Counted.{more-type-other}
 use Rattle.laws.proofs.Halves.{none-facets}
@@ -159,9 +159,10 @@ module _ (caps : Caps) (m : Map) (c t : ℕ) (marks : List ℕ) (s : State) (r :
       sib h e (yes q) = a .own h q ∙ sym (not-own m (mapWith caps s) c t marks r h e q)
       sib h e (no n) = a .other h n ∙ kept-sib m (mapWith caps s) c t marks r h e n
 
-  pub around-wf : (w : List ℕ) → Pic w caps (withCount (settled caps s) t (length (cellsOf (mapWith caps s) t))) → Wf w (mapWith caps s)
+  pub around-wf : TwoSolids (mapWith caps s) → (w : List ℕ) → Pic w caps (withCount (settled caps s) t (length (cellsOf (mapWith caps s) t)))
+      → Wf w (mapWith caps s)
   unfolding withCount settled stateOf mapWith
-  around-wf w p = record { sound = r .sound; picture = subst (Pic w caps) fields counts }
+  around-wf two w p = record { sound = r .sound; two = two; picture = subst (Pic w caps) fields counts }
     where
       m′ : Map
       m′ = mapWith caps s

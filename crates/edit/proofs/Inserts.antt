@@ -15,11 +15,12 @@ use Rattle.shapes.specs.Table.{table}
 use Rattle.map.specs.Cells.{Body, Map, noCell, live, holds, cellsOf}
 use Rattle.map.specs.Stars.{holders}
 use Rattle.map.specs.History.{Insert, put, changed}
-use Rattle.map.specs.Sound.{Sound}
+use Rattle.map.specs.Sound.{Sound, TwoSolids}
 use Rattle.laws.proofs.Edits.{MayInsert, none-holds, sound-insert}
 use Rattle.laws.proofs.Local.{more-insert}
 use Rattle.laws.proofs.Counted.{count-insert}
 use Rattle.laws.proofs.Halves.{none-facets}
+use Rattle.laws.proofs.Solids.{two-insert}
 use Rattle.picture.specs.State.{State, mapWith, stateOf}
 use Rattle.picture.specs.Picture.{chainOf, Pic, Wf}
 use Rattle.picture.specs.Changes.{withBody, withCount}
@@ -116,8 +117,8 @@ module _ (m : Map) (s : Sound m) (c : ℕ) (x : Body) (r : MayInsert m c x) wher
   pub may-count : (1 ≤ x .code) × (x .code ≤ mostCode)
   may-count = type-code (x .code) (r .typed)
 
-  pub inserted : (w : List ℕ) → Pic w (m .caps) (withCount (settled (m .caps) (joined m c x)) (x .code) (suc (length (cellsOf m (x .code)))))
+  pub inserted : TwoSolids m → (w : List ℕ) → Pic w (m .caps) (withCount (settled (m .caps) (joined m c x)) (x .code) (suc (length (cellsOf m (x .code)))))
       → Wf w (changed m (Insert c x))
-  inserted w p =
+  inserted two w p =
       rw same-map at
-      (around-wf (m .caps) m c (x .code) (x .marks) (joined m c x) (rw same-map turn) around w (rw (same-map, count-insert m s c x r) p))
+      (around-wf (m .caps) m c (x .code) (x .marks) (joined m c x) (rw same-map turn) around (rw same-map (two-insert m s two c x r)) w (rw (same-map, count-insert m s c x r) p))

@@ -19,10 +19,11 @@ use Rattle.numbers.specs.declared.Caps.{Caps}
 use Rattle.numbers.specs.Half.{cut, halfOf}
 use Rattle.map.specs.Cells.{Map, noCell, dimensionAt, holds, cellsOf}
 use Rattle.map.specs.History.{Remove, put, changed}
-use Rattle.map.specs.Sound.{Sound}
+use Rattle.map.specs.Sound.{Sound, TwoSolids}
 use Rattle.laws.proofs.Edits.{MayRemove, none-holds, sound-remove}
 use Rattle.laws.proofs.Local.{more-remove}
 use Rattle.laws.proofs.Counted.{count-remove}
+use Rattle.laws.proofs.Solids.{two-remove}
 use Rattle.picture.specs.State.{State, mapWith, stateOf}
 use Rattle.picture.specs.Picture.{Pic, Wf}
 use Rattle.picture.specs.Changes.{withBody, withSib, withCount}
@@ -153,11 +154,11 @@ module _ (m : Map) (s : Sound m) (c : ℕ) (r : MayRemove m c) where
   unfolding dimensionAt
   may-count = type-code (m .at c .code) (s .typed c (r .live))
 
-  pub removed : (w : List ℕ)
+  pub removed : TwoSolids m → (w : List ℕ)
       → Pic w (m .caps) (withCount (settled (m .caps) (gone m c)) (m .at c .code) (length (cellsOf m (m .at c .code)) - 1))
       → Wf w (changed m (Remove c))
-  removed w p =
+  removed two w p =
       let fewer : length (cellsOf (changed m (Remove c)) (m .at c .code)) ≡ length (cellsOf m (m .at c .code)) - 1
       = omega (arith, count-remove m s c r) in
       rw same-map at
-      (around-wf (m .caps) m c (m .at c .code) (m .at c .marks) (gone m c) (rw same-map turn) around w (rw (same-map, fewer) p))
+      (around-wf (m .caps) m c (m .at c .code) (m .at c .marks) (gone m c) (rw same-map turn) around (rw same-map (two-remove m s two c r)) w (rw (same-map, fewer) p))

@@ -10,7 +10,7 @@ use Rattle.lists.specs.Lists.{has, keep}
 use Rattle.lists.proofs.Bools.{clash}
 use Rattle.lists.proofs.Counts.{select-none}
 use Rattle.numbers.specs.declared.Caps.{Caps}
-use Rattle.store.specs.Fields.{Magic, MarkCap, CellCap, Count, HeadRest, First, Held, Anchor, MarkRest, Code, Near, Sib, Link, Far, CellRest}
+use Rattle.store.specs.Fields.{Magic, MarkCap, CellCap, Edition, Count, HeadRest, First, Held, Anchor, MarkRest, Code, Near, Sib, Link, Far, CellRest}
 use Rattle.store.specs.Slots.{Slot, InHead, InMark, InCell, Within}
 use Rattle.store.proofs.Heads.{headNumber}
 use Rattle.map.specs.Cells.{noCell, bodyIn, mapOf, cellsOf}
@@ -63,6 +63,7 @@ module _ (caps : Caps) where
   empty-word (InHead Magic) h n = absurd (omega arith)
   empty-word (InHead MarkCap) h n = absurd (omega arith)
   empty-word (InHead CellCap) h n = absurd (omega arith)
+  empty-word (InHead Edition) h n = absurd (omega arith)
   empty-word (InHead (Count t)) h n = empty-count t (h .0)
   empty-word (InHead (HeadRest k)) h n = refl
   empty-word (InMark v First) h n = rw (empty-chain v)

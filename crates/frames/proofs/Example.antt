@@ -9,7 +9,7 @@ use Rattle.map.specs.Cells.{noCell, bodyIn, mapOf, live, dimensionAt, holds, fa
 use Rattle.map.specs.Siblings.{isHalf, marksOf, sharers, siblings, sibling, border}
 use Rattle.map.specs.Groups.{grow, grown, groupOf}
 use Rattle.map.specs.Stars.{holders, star, linked, group, halvesAt, anchor, anchors}
-use Rattle.map.specs.Answers.{_when_, answer, insertChecks, cellChecks, halfChecks, starChecks}
+use Rattle.map.specs.Answers.{_when_, answer, third, insertChecks, cellChecks, halfChecks, starChecks}
 use Rattle.map.specs.History.{empty, put, editAnswer, changed, edited}
 use Rattle.frames.specs.Frames.{digits, placeOf, digitOf, badLine, byteAt, bytesOf, numberAt, twoBytes, marksFrom, _sized_means_, rows, meaning, frameIn, frameOf, each, counted, cellAndFacet, replyTo, mapAfter, hex, written, outputFrom, output}
 
@@ -44,7 +44,7 @@ expected =
     []
 
 pub worked : output given ≡ expected
-unfolding given expected any all has sameSet repeats keep select first after listOf halfOf S.noShape S.shapes S.shape S.facetCount noCell bodyIn mapOf live dimensionAt holds facetsAt shares cellsOf isHalf marksOf sharers siblings sibling border grow grown groupOf holders star linked group halvesAt anchor anchors _when_ answer insertChecks cellChecks halfChecks starChecks empty put editAnswer changed edited digits placeOf digitOf badLine byteAt bytesOf numberAt twoBytes marksFrom _sized_means_ rows meaning frameIn frameOf each counted cellAndFacet replyTo mapAfter hex written outputFrom output
+unfolding given expected any all has sameSet repeats keep select first after listOf halfOf S.noShape S.shapes S.shape S.facetCount noCell bodyIn mapOf live dimensionAt holds facetsAt shares cellsOf isHalf marksOf sharers siblings sibling border grow grown groupOf holders star linked group halvesAt anchor anchors _when_ answer third insertChecks cellChecks halfChecks starChecks empty put editAnswer changed edited digits placeOf digitOf badLine byteAt bytesOf numberAt twoBytes marksFrom _sized_means_ rows meaning frameIn frameOf each counted cellAndFacet replyTo mapAfter hex written outputFrom output
 worked = refl
 
 -- frames that are refused, a line each, and what is written for them
@@ -111,5 +111,5 @@ refusals =
     []
 
 pub broken-frames : output broken ≡ refusals
-unfolding broken refusals any all has sameSet repeats keep select first after listOf halfOf S.noShape S.shapes S.shape S.facetCount noCell bodyIn mapOf live dimensionAt holds facetsAt shares cellsOf isHalf marksOf sharers siblings sibling border grow grown groupOf holders star linked group halvesAt anchor anchors _when_ answer insertChecks cellChecks halfChecks starChecks empty put editAnswer changed edited digits placeOf digitOf badLine byteAt bytesOf numberAt twoBytes marksFrom _sized_means_ rows meaning frameIn frameOf each counted cellAndFacet replyTo mapAfter hex written outputFrom output
+unfolding broken refusals any all has sameSet repeats keep select first after listOf halfOf S.noShape S.shapes S.shape S.facetCount noCell bodyIn mapOf live dimensionAt holds facetsAt shares cellsOf isHalf marksOf sharers siblings sibling border grow grown groupOf holders star linked group halvesAt anchor anchors _when_ answer third insertChecks cellChecks halfChecks starChecks empty put editAnswer changed edited digits placeOf digitOf badLine byteAt bytesOf numberAt twoBytes marksFrom _sized_means_ rows meaning frameIn frameOf each counted cellAndFacet replyTo mapAfter hex written outputFrom output
 broken-frames = refl

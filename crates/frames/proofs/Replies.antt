@@ -9,6 +9,7 @@ use lib.Dec.{ltb}
 use lib.ListN.{length}
 use Rattle.numbers.specs.Half.{halfOf}
 use Rattle.numbers.specs.Sizes.{mostCapacity, capacities}
+use Rattle.numbers.specs.Editions.{isEdition}
 use Rattle.numbers.specs.Room.{room}
 use Rattle.map.specs.declared.Refusal.{Refusal}
 use Rattle.map.specs.declared.Refusal.the-variants.{CapacityAbove, BadFrame}
@@ -72,7 +73,7 @@ module _ (m : Map) where
 
   pub reply-format : (marks cells words : ℕ) (v : Verdict) → marks ≤ 384 → cells ≤ 384 → room 384 384 ≤ words
       → verdictSays v ≡ answer (formatChecks words (capacities marks cells)) [] → replyTo m (Format marks cells) ≡ verdictSays v
-  unfolding replyTo answer formatChecks _when_ room
+  unfolding replyTo answer formatChecks _when_ isEdition room
   reply-format marks cells words v a b h e =
       sym
       (e

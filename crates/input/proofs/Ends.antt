@@ -9,6 +9,7 @@ use lib.Dec.{leb}
 use lib.ListN.{length, length-take}
 use Rattle.numbers.specs.Room.{room}
 use Rattle.numbers.specs.Sizes.{capacities}
+use Rattle.numbers.specs.Editions.{isEdition}
 use Rattle.words.proofs.Frame.{only-none}
 use Rattle.map.specs.declared.Refusal.the-variants.{MemoryShort, BadFrame}
 use Rattle.map.specs.declared.Verdict.{Verdict}
@@ -49,7 +50,7 @@ start-short w h = record {
 }
 
 pub start-formatted : (w w′ : List ℕ) (v : Verdict) (marks cells : ℕ) → 15376 ≤ length w → marks ≡ 0 → cells ≡ 0 → Formatted w (capacities marks cells) v w′ → Started w v w′
-unfolding room answer formatChecks _when_ verdictSays given mapOf empty
+unfolding room answer formatChecks _when_ isEdition verdictSays given mapOf empty
 start-formatted w w′ v marks cells h em ec f = record {
   says = ap verdictSays accepts ∙ rw (le-ltb (length w) 15376 h);
   kept = f .kept;

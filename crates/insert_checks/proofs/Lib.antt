@@ -1,3 +1,4 @@
 -- The laws of admitting a cell.
 pub mod Alike
+pub mod Faces
 pub mod Rows

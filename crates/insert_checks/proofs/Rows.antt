@@ -17,9 +17,9 @@ use Rattle.numbers.specs.Sizes.{mostAround}
 use Rattle.store.specs.Slots.{codeIn}
 use Rattle.map.specs.Cells.{Body, Map, live, cellsOf}
 use Rattle.map.specs.Stars.{holders}
-use Rattle.map.specs.Answers.{_when_, answer, insertChecks}
+use Rattle.map.specs.Answers.{_when_, answer, third, insertChecks}
 use Rattle.map.specs.Says.{given, refused, verdictSays}
-use Rattle.map.specs.declared.Refusal.the-variants.{CellOutside, CellLive, TypeUnknown, CountWrong, MarkOutside, MarkTwice, CellSame, MarkFull}
+use Rattle.map.specs.declared.Refusal.the-variants.{CellOutside, CellLive, TypeUnknown, CountWrong, MarkOutside, MarkTwice, CellSame, MarkFull, FaceFull}
 use Rattle.map.specs.declared.Verdict.the-variants.{Accepted, Refused}
 use Rattle.picture.specs.State.{stateOf}
 use Rattle.picture.specs.Picture.{Wf}
@@ -28,7 +28,7 @@ use Rattle.chain.proofs.Places.{count-word}
 use Rattle.chain.proofs.Readied.{chain-holders}
 use Rattle.checks.specs.Checked.{Checked}
 use Rattle.checks.proofs.Rows.{marks-of, cells-of, code-of}
-use Rattle.insert_checks.specs.Admit.{fullIn, Same}
+use Rattle.insert_checks.specs.Admit.{fullIn, Same, Known, Tells}
 use Rattle.shapes.proofs.Types.{type-marks}
 
 module _ (w : List ℕ) (caps : Caps) (c : ℕ) (b : Body) where
@@ -96,24 +96,33 @@ module _ (w : List ℕ) (caps : Caps) (c : ℕ) (b : Body) where
                 unfolding insertChecks _when_ answer verdictSays refused
                 in-same q = record { says = λ m e wf. rw (below m e, dead m e wf, known, right, within m e, once, ← other m e wf, q) }
 
-                module _ (new : r ≡ false) (f : Bool) (full : f ≡ any (fullIn w caps) (b .marks)) where
-                  counts : (m : Map) → m .caps ≡ caps → Wf w m → f ≡ any (λ v. leb mostAround (length (holders m v))) (b .marks)
-                  unfolding fullIn
-                  counts m e wf =
-                      full
-                      ∙ any-same (fullIn w caps) (λ v. leb mostAround (length (holders m v))) (b .marks)
-                      (λ v q.
-                      let low : v < caps .marks = leb-false (caps .marks) v (none-has (leb (caps .marks)) (b .marks) inside v q) in
-                      ap (leb mostAround)
-                      (count-word w caps (stateOf m) (wf-pic w caps m e wf) v low
-                      ∙ ap length (chain-holders caps (stateOf m) (wf-settled w caps m e wf .ready) v ∙ ap (λ (k : Map). holders k v) (wf-map w caps m e wf))))
+                module _ (new : r ≡ false) (t : Bool) (solids : Tells w caps (Known caps (b .code) (b .marks)) (λ m. third m b) t) where
+                  faces : (m : Map) → m .caps ≡ caps → Wf w m → t ≡ third m b
+                  faces m e wf = solids .tells m e wf (record { count = size ∙ count; inside = inside })
 
-                  pub in-full : f ≡ true → Checked w caps (λ m. insertChecks m c b) (Refused MarkFull)
+                  pub in-third : t ≡ true → Checked w caps (λ m. insertChecks m c b) (Refused FaceFull)
                   unfolding insertChecks _when_ answer verdictSays refused
-                  in-full q = record
-                      { says = λ m e wf. rw (below m e, dead m e wf, known, right, within m e, once, ← other m e wf, new, ← counts m e wf, q) }
+                  in-third q = record
+                      { says = λ m e wf. rw (below m e, dead m e wf, known, right, within m e, once, ← other m e wf, new, ← faces m e wf, q) }
 
-                  pub in-good : f ≡ false → Checked w caps (λ m. insertChecks m c b) Accepted
-                  unfolding insertChecks _when_ answer verdictSays given
-                  in-good q = record
-                      { says = λ m e wf. rw (below m e, dead m e wf, known, right, within m e, once, ← other m e wf, new, ← counts m e wf, q) }
+                  module _ (sole : t ≡ false) (f : Bool) (full : f ≡ any (fullIn w caps) (b .marks)) where
+                    counts : (m : Map) → m .caps ≡ caps → Wf w m → f ≡ any (λ v. leb mostAround (length (holders m v))) (b .marks)
+                    unfolding fullIn
+                    counts m e wf =
+                        full
+                        ∙ any-same (fullIn w caps) (λ v. leb mostAround (length (holders m v))) (b .marks)
+                        (λ v q.
+                        let low : v < caps .marks = leb-false (caps .marks) v (none-has (leb (caps .marks)) (b .marks) inside v q) in
+                        ap (leb mostAround)
+                        (count-word w caps (stateOf m) (wf-pic w caps m e wf) v low
+                        ∙ ap length (chain-holders caps (stateOf m) (wf-settled w caps m e wf .ready) v ∙ ap (λ (k : Map). holders k v) (wf-map w caps m e wf))))
+
+                    pub in-full : f ≡ true → Checked w caps (λ m. insertChecks m c b) (Refused MarkFull)
+                    unfolding insertChecks _when_ answer verdictSays refused
+                    in-full q = record
+                        { says = λ m e wf. rw (below m e, dead m e wf, known, right, within m e, once, ← other m e wf, new, ← faces m e wf, sole, ← counts m e wf, q) }
+
+                    pub in-good : f ≡ false → Checked w caps (λ m. insertChecks m c b) Accepted
+                    unfolding insertChecks _when_ answer verdictSays given
+                    in-good q = record
+                        { says = λ m e wf. rw (below m e, dead m e wf, known, right, within m e, once, ← other m e wf, new, ← faces m e wf, sole, ← counts m e wf, q) }

@@ -16,7 +16,7 @@ use Rattle.numbers.specs.declared.Caps.{Caps}
 use Rattle.shapes.specs.Shapes.{shape, shapes, noShape}
 use Rattle.map.specs.Cells.{Body, bodyOf, Map, noCell, bodyIn, mapOf, live, dimensionAt, holds, cellsOf}
 use Rattle.map.specs.Stars.{holders}
-use Rattle.map.specs.Answers.{Check, _when_, answer, insertChecks, cellChecks}
+use Rattle.map.specs.Answers.{Check, _when_, answer, third, insertChecks, cellChecks}
 use Rattle.map.specs.History.{empty, Edit, Insert, Remove, editAnswer, put, changed, edited, history, build, buildFrom}
 use Rattle.map.specs.Sound.{Sound}
 use Rattle.lists.proofs.Counts.{none-has, has-none, select-none, select-fewer, select-more}
@@ -86,6 +86,7 @@ pub record MayInsert (m : Map) (c : ℕ) (x : Body) : Type 0 where
   pub inside : (v : ℕ) → has v (x .marks) ≡ true → v < m .caps .marks
   pub distinct : repeats (x .marks) ≡ false
   pub new : (k : ℕ) → k < m .caps .cells → m .at k .code ≡ x .code → sameSet (m .at k .marks) (x .marks) ≡ false
+  pub room : third m x ≡ false
   pub few : (v : ℕ) → has v (x .marks) ≡ true → length (holders m v) < mostAround
 
 -- what a removal is accepted for
@@ -107,7 +108,8 @@ module _ (m : Map) (c : ℕ) (x : Body) where
         inside = λ v h. leb-false _ v (none-has _ (x .marks) (pass 4) v h);
         distinct = pass 5;
         new = λ k l same. none-has _ (cellsOf m (x .code)) (pass 6) k (select-in _ _ k l (eq-eqb _ (x .code) same));
-        few = λ v h. leb-false mostAround _ (none-has _ (x .marks) (pass 7) v h);
+        room = pass 7;
+        few = λ v h. leb-false mostAround _ (none-has _ (x .marks) (pass 8) v h);
       }
 
   -- and an insertion that has it is accepted
@@ -123,6 +125,7 @@ module _ (m : Map) (c : ℕ) (x : Body) where
         r .distinct,
         has-none (λ k. sameSet (m .at k .marks) (x .marks)) (cellsOf m (x .code))
             (λ k h. let s = select-out _ _ k h in r .new k (s .0) (eqb-true _ (x .code) (s .1))),
+        r .room,
         has-none (λ v. leb mostAround (length (holders m v))) (x .marks) (λ v h. lt-leb mostAround _ (r .few v h)),
       )
 

@@ -4,7 +4,7 @@ use mathlib.Core.Bool.{true, false}
 use mathlib.Core.List.{List, [], map}
 use Prim.Native.Nat.{ℕ, _/_, _%_, _<_, _≤_}
 use native.Mathlib.Omega.{arith}
-use borrow.Author.Tests.{ltb-true}
+use borrow.Author.Tests.{lt-ltb, ltb-true}
 use lib.ListN.{length, getD, length-map, List·getD-map}
 use Rattle.lists.specs.Lists.{has, repeats, sameSet}
 use Rattle.lists.proofs.Bools.{same-test}
@@ -12,11 +12,13 @@ use Rattle.lists.proofs.Members.{at-has, has-at, once}
 use Rattle.lists.proofs.Sets.{same-has, has-same}
 use Rattle.lists.proofs.Alike.{map-at}
 use Rattle.lists.proofs.Sized.{map-once, same-size}
+use Rattle.numbers.specs.Half.{halfOf}
+use Rattle.numbers.proofs.Inverse.{half-cell, half-facet, half-below}
 use Rattle.shapes.specs.Shapes.{shape}
 use Rattle.shapes.specs.Facts.{facetAt, dimensionOf}
 use Rattle.shapes.proofs.Facts.{facts}
 use Rattle.map.specs.Cells.{Map, dimensionAt, holds, facetsAt}
-use Rattle.map.specs.Siblings.{Half, isHalf, marksOf, siblings}
+use Rattle.map.specs.Siblings.{Half, isHalf, marksOf, sharers, siblings}
 use Rattle.map.specs.Sound.{Sound}
 use Rattle.laws.proofs.Anchors.{facet-mark}
 use Rattle.laws.proofs.Cycles.{sharers-has}
@@ -60,6 +62,24 @@ module _ (m : Map) (o : Sound m) (c : ℕ) where
           → has v (facetAt (shape t) j) ≡ true → has v (facetAt (shape t) k) ≡ true
       there j k same v q = facet-place k v (below j v q) (sym (same (getD (m .at c .marks) v 0)) ∙ facet-mark m c j v q)
 
+-- each facet of a cell below the capacity is a half-facet
+pub facet-half : (m : Map) (c f : ℕ) → c < m .caps .cells → f < length (facetsAt m c)
+    → Half m (halfOf c f) × (halfOf c f / 8 ≡ c) × (marksOf m (halfOf c f) ≡ getD (facetsAt m c) f [])
+unfolding isHalf marksOf
+facet-half m c f l hf =
+    let few : f < 8 = omega (arith, facets-count m c, facts (m .at c .code) .facets) in
+    let cell : halfOf c f / 8 ≡ c = half-cell c f few in
+    let facet : halfOf c f % 8 ≡ f = half-facet c f few in
+    (record { below = half-below c f _ few l; facet = rw (cell, facet) (lt-ltb f (length (facetsAt m c)) hf) }, cell, rw (cell, facet))
+
+-- two half-facets of one cell with one set are one
+pub same-half : (m : Map) → Sound m → (h k : ℕ) → Half m h → Half m k → h / 8 ≡ k / 8
+    → sameSet (marksOf m h) (marksOf m k) ≡ true → h ≡ k
+unfolding isHalf marksOf
+same-half m o h k x y z e =
+    let facet : h % 8 ≡ k % 8 = one-match m o (k / 8) (h % 8) (k % 8) (ltb-true _ _ (rw z at (x .facet))) (ltb-true _ _ (y .facet)) (rw z at e) in
+    omega arith
+
 -- a facet has a first mark
 module _ (m : Map) (c f : ℕ) (hf : f < length (facetsAt m c)) where
   abbrev mark : ℕ → ℕ
@@ -85,29 +105,38 @@ module _ (m : Map) (c f : ℕ) (hf : f < length (facetsAt m c)) where
       let less : place < length (m .at c .marks) = omega (arith, o .fitting c, facts (m .at c .code) .inside f (r .0) (r .1)) in
       o .inside v c (ap (λ (u : ℕ). has u (m .at c .marks)) (sym (r .2)) ∙ at-has (m .at c .marks) place less)
 
--- "Sibling facts are proved once over the facet sizes": facets with one set have one size, and a facet's size tells the dimension
-module _ (m : Map) (o : Sound m) where
-  facet-once : (c f : ℕ) → f < length (facetsAt m c) → repeats (getD (facetsAt m c) f []) ≡ false
-  facet-once c f hf =
-      rw (mapped m c f hf)
-      (map-once (mark m c f hf) (ps m c f hf) (facts (m .at c .code) .distinct f) (λ x y hx hy e. once (m .at c .marks) (o .distinct c) x y (below x hx) (below y hy) e))
-    where
-      below : (v : ℕ) → has v (facetAt (shape (m .at c .code)) f) ≡ true → v < length (m .at c .marks)
-      below v q =
-          let r = has-at v (facetAt (shape (m .at c .code)) f) q in
-          omega (arith, o .fitting c, rw (r .2) at (facts (m .at c .code) .inside f (r .0) (r .1)))
-
-  facet-size : (c f : ℕ) → f < length (facetsAt m c) → dimensionOf (length (getD (facetsAt m c) f [])) ≡ dimensionAt m c
+  -- "Sibling facts are proved once over the facet sizes": a facet's size tells the dimension
+  pub facet-size : dimensionOf (length (getD (facetsAt m c) f [])) ≡ dimensionAt m c
   unfolding dimensionAt
-  facet-size c f hf = rw (mapped m c f hf, length-map) (facts (m .at c .code) .size f (omega (arith, facets-count m c)))
+  facet-size = rw (mapped, length-map) (facts (m .at c .code) .size f (omega (arith, facets-count m c)))
+
+  -- where the cell's marks are distinct, a facet's are
+  pub facet-once : length (m .at c .marks) ≡ shape (m .at c .code) .marks → repeats (m .at c .marks) ≡ false
+      → repeats (getD (facetsAt m c) f []) ≡ false
+  facet-once fit o =
+      rw mapped
+      (map-once mark ps (facts (m .at c .code) .distinct f) (λ x y hx hy e. once (m .at c .marks) o x y (below x hx) (below y hy) e))
+    where
+      below : (v : ℕ) → has v ps ≡ true → v < length (m .at c .marks)
+      below v q =
+          let r = has-at v ps q in
+          omega (arith, fit, rw (r .2) at (facts (m .at c .code) .inside f (r .0) (r .1)))
+
+module _ (m : Map) (o : Sound m) where
+  -- a sharer of a set of distinct marks is of the dimension that its size tells
+  pub sharers-dimension : (set : List ℕ) → repeats set ≡ false → (k : ℕ) → has k (sharers m set) ≡ true
+      → dimensionAt m (k / 8) ≡ dimensionOf (length set)
+  unfolding marksOf isHalf
+  sharers-dimension set r k e =
+      let both = sharers-has m set k e in
+      let kf : k % 8 < length (facetsAt m (k / 8)) = ltb-true _ _ (both .0 .facet) in
+      sym (facet-size m (k / 8) (k % 8) kf)
+      ∙ ap dimensionOf (sym (same-size _ _ r (facet-once m (k / 8) (k % 8) kf (o .fitting (k / 8)) (o .distinct (k / 8))) (both .1)))
 
   -- so a facet of a solid is never the sibling of an edge
   pub siblings-dimension : (h k : ℕ) → Half m h → has k (siblings m h) ≡ true → dimensionAt m (k / 8) ≡ dimensionAt m (h / 8)
   unfolding siblings marksOf isHalf
   siblings-dimension h k half e =
-      let both = sharers-has m (marksOf m h) k e in
       let hf : h % 8 < length (facetsAt m (h / 8)) = ltb-true _ _ (half .facet) in
-      let kf : k % 8 < length (facetsAt m (k / 8)) = ltb-true _ _ (both .0 .facet) in
-      sym (facet-size (k / 8) (k % 8) kf)
-      ∙ ap dimensionOf (sym (same-size _ _ (facet-once (h / 8) (h % 8) hf) (facet-once (k / 8) (k % 8) kf) (both .1)))
-      ∙ facet-size (h / 8) (h % 8) hf
+      sharers-dimension (marksOf m h) (facet-once m (h / 8) (h % 8) hf (o .fitting (h / 8)) (o .distinct (h / 8))) k e
+      ∙ facet-size m (h / 8) (h % 8) hf

@@ -19,7 +19,8 @@ pub none-facets : (m : Map) (c : ℕ) → m .at c ≡ noCell → facetsAt m c �
 unfolding facetsAt noCell shape shapes noShape
 none-facets m c e = ap (λ (b : Body). map (map (λ (place : ℕ). getD (b .marks) place 0)) (shape (b .code) .facets)) e
 
-no-half : (m : Map) (h : ℕ) → isHalf m h ≡ true → facetsAt m (h / 8) ≡ [] → ⊥
+-- and no half-facet
+pub no-half : (m : Map) (h : ℕ) → isHalf m h ≡ true → facetsAt m (h / 8) ≡ [] → ⊥
 unfolding isHalf
 no-half m h e q = omega (arith, ltb-true (h % 8) (length (facetsAt m (h / 8))) e, ap length q)
 

@@ -9,3 +9,4 @@ pub mod Halves
 pub mod Local
 pub mod Counted
 pub mod Facets
+pub mod Solids

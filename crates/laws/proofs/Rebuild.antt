@@ -17,16 +17,13 @@ use Rattle.map.specs.Cells.{Body, bodyOf, Live, Map, noCell, bodyIn, mapOf, liv
 use Rattle.map.specs.Stars.{holders}
 use Rattle.map.specs.History.{empty, Edit, Insert, editAnswer, put, changed, edited, history, Outcome, build, buildFrom}
 use Rattle.map.specs.Afresh.{Shuffled, numbers, Distinct, buildWords}
-use Rattle.map.specs.Sound.{Sound}
+use Rattle.map.specs.Sound.{Sound, TwoSolids}
 use Rattle.lists.proofs.Select.{select-in, select-out}
 use Rattle.lists.proofs.Order.{select-ascends, asc-once}
 use Rattle.lists.proofs.Counts.{neither, select-fewer}
 use Rattle.laws.proofs.Orders.{distinct-parts, order-free, shuffled-front, shuffled-distinct, shuffled-all, shuffled-same}
 use Rattle.laws.proofs.Edits.{edited-changed, MayInsert, may-insert, insert-may, coded, none-holds, put-all, holders-more}
-
--- a map of some of the cells of m
-abbrev pub part : Map → (ℕ → Body) → Map
-part m at = record { caps = m .caps; at = at }
+use Rattle.laws.proofs.Solids.{part, part-room}
 
 module _ (m : Map) (at : ℕ → Body) (inner : (k : ℕ) → (at k ≡ noCell) ⊎ (at k ≡ m .at k)) (c : ℕ) (x : Body) where
   -- with one more cell of the map, a part of it has no more cells at a mark than the map
@@ -37,10 +34,10 @@ module _ (m : Map) (at : ℕ → Body) (inner : (k : ℕ) → (at k ≡ noCell) 
       (put-all (part m at) c x (λ k y. has v (y .marks) ≡ true → has v (m .at k .marks) ≡ true) (λ e. rw here e)
       (λ k n e. ⊎-elim (λ z. absurd (clash (rw z at e) refl)) (λ z. rw z at e) (inner k)))
 
-  -- a part of a sound map takes every live cell of the map that it has not
-  pub part-takes : Sound m → m .at c ≡ x → coded x ≡ true → at c ≡ noCell → MayInsert (part m at) c x
+  -- a part of a sound map with two solids at most takes every live cell of the map that it has not
+  pub part-takes : Sound m → TwoSolids m → m .at c ≡ x → coded x ≡ true → at c ≡ noCell → MayInsert (part m at) c x
   unfolding live dimensionAt holds noCell
-  part-takes s here l free = record {
+  part-takes s t here l free = record {
     number = below;
     free = rw free;
     typed = rw (here, dimensionAt) at (s .typed c (rw here l));
@@ -48,6 +45,7 @@ module _ (m : Map) (at : ℕ → Body) (inner : (k : ℕ) → (at k ≡ noCell) 
     inside = λ v h. s .inside v c (rw here h);
     distinct = rw here at (s .distinct c);
     new = λ k b e. not-true-false _ (λ h. ⊎-elim (lacks k e) (λ z. lacks k e (rw (same k e h z) free)) (inner k));
+    room = rw here at (part-room m at inner t c free below);
     few = λ v h.
         omega (arith, s .few v, part-holders here v, holders-more (part m at) c x v below (none-holds (part m at) c free v) h);
   }
@@ -97,9 +95,10 @@ pub data AllAccepted : Map → List Edit → Type 0 where
 abbrev pub AllLive : List Live → Type 0
 AllLive list = all (λ (x : Live). coded (x .body)) list ≡ true
 
--- a list that can be built: its map is sound, no number stands in it twice, and its cells are live
+-- a list that can be built: its map is sound with two solids at most, no number stands in it twice, and its cells are live
 pub record Tidy (caps : Caps) (list : List Live) : Type 0 where
   pub sound : Sound (mapOf caps list)
+  pub two : TwoSolids (mapOf caps list)
   pub distinct : Distinct list
   pub live : AllLive list
 
@@ -108,6 +107,7 @@ module _ (caps : Caps) where
   pub tidy-shuffled : (a b : List Live) → Shuffled a b → Tidy caps a → Tidy caps b
   tidy-shuffled a b s t = record {
     sound = rw (order-free caps a b s (t .distinct)) at (t .sound);
+    two = rw (order-free caps a b s (t .distinct)) at (t .two);
     distinct = shuffled-distinct s (t .distinct);
     live = sym (shuffled-all (λ (x : Live). coded (x .body)) s) ∙ t .live;
   }
@@ -122,7 +122,7 @@ module _ (caps : Caps) where
     unfolding mapOf bodyIn all
     next-accepted =
         insert-may (mapOf caps a) (x .number) (x .body)
-        (part-takes (mapOf caps (a ++ (x ∷ b))) (bodyIn a) (bodies-append a (x ∷ b)) (x .number) (x .body) (t .sound)
+        (part-takes (mapOf caps (a ++ (x ∷ b))) (bodyIn a) (bodies-append a (x ∷ b)) (x .number) (x .body) (t .sound) (t .two)
         (shuffled-same (shuffled-front x a b) (t .distinct) (x .number) ∙ rw (eq-eqb (x .number) (x .number) refl))
         (and-left _ _ (front .live)) (not-listed a b (x .number) (distinct-parts x (a ++ b) (front .distinct) .0)))
 
@@ -194,18 +194,19 @@ module _ (m : Map) where
             rw (not-true-false (has k (select (live m) (m .caps .cells))) (λ h. clash (select-out _ _ k h .1) e)) (sym (s .dead k e))
 
     -- and the list is tidy
-    pub live-tidy : Tidy (m .caps) (liveCells m)
+    pub live-tidy : TwoSolids m → Tidy (m .caps) (liveCells m)
     unfolding liveCells
-    live-tidy = record {
+    live-tidy t = record {
       sound = rw live-same s;
+      two = rw live-same t;
       distinct = rw numbers-of (asc-once _ (select-ascends (live m) (m .caps .cells)));
       live = lives-of _ (λ k h. select-out (live m) (m .caps .cells) k h .1);
     }
 
     -- built afresh from its live cells in any order, each is accepted in turn, and the map is the same
-    pub afresh : (other : List Live) → Shuffled (liveCells m) other
+    pub afresh : TwoSolids m → (other : List Live) → Shuffled (liveCells m) other
         → AllAccepted (empty (m .caps)) (inserts other) × (history (empty (m .caps)) (inserts other) ≡ m)
-    afresh other o = let r = rebuild-any (m .caps) (liveCells m) other live-tidy o in (r .0, r .1 ∙ live-same)
+    afresh t other o = let r = rebuild-any (m .caps) (liveCells m) other (live-tidy t) o in (r .0, r .1 ∙ live-same)
 
 -- a record that is accepted is made, and the build goes on behind it
 build-next : (n place : ℕ) (m : Map) (c : ℕ) (x : Body) (words : List ℕ) → editAnswer m (Insert c x) .refusal ≡ 0
@@ -232,10 +233,10 @@ build-inserts (x ∷ xs) (suc n) place m (next a more) l =
     ∙ rw (a, history) (build-inserts xs n (suc place) (changed m (insertion x)) rest room)
 
 -- a build of its cells in any order is accepted and leaves that map
-pub afresh-built : (m : Map) → Sound m → (other : List Live) → Shuffled (liveCells m) other
+pub afresh-built : (m : Map) → Sound m → TwoSolids m → (other : List Live) → Shuffled (liveCells m) other
     → (build (m .caps) (buildWords other) .refusal ≡ 0) × (build (m .caps) (buildWords other) .map ≡ m)
 unfolding build
-afresh-built m s other o =
-    let r = afresh m s other o in
+afresh-built m s t other o =
+    let r = afresh m s t other o in
     let b = build-inserts other (length (buildWords other)) 0 (empty (m .caps)) (r .0) (omega arith) in
     (ap (λ (k : Outcome). k .refusal) b, ap (λ (k : Outcome). k .map) b ∙ r .1)

@@ -2,13 +2,14 @@
 use mathlib.Core.Path.{_≡_, refl, sym, ap, _∙_}
 use mathlib.Core.Bool.{Bool, true, false, cond, not, _||_}
 use mathlib.Core.List.{List, [], _∷_, map}
+use mathlib.Core.Logic.{⊎-elim}
 use Prim.Native.Nat.{ℕ, suc, _<_, _≤_}
 use native.Mathlib.Omega.{arith}
 use borrow.Author.Tests.{eq-eqb, eqb-true}
 use lib.Dec.{eqb}
 use lib.ListN.{length, getD}
 use Rattle.lists.specs.Lists.{has, keep, repeats, sameSet}
-use Rattle.lists.proofs.Bools.{clash, or-left, or-right, not-true-false, not-of-false}
+use Rattle.lists.proofs.Bools.{clash, or-cases, or-left, or-right, not-true-false, not-of-false}
 use Rattle.lists.proofs.Members.{at-has}
 use Rattle.lists.proofs.Counts.{neither}
 use Rattle.lists.proofs.Keep.{keep-in, keep-size}
@@ -46,6 +47,13 @@ distinct-fewer (x ∷ xs) b r f =
 
     apart : (v : ℕ) → has v xs ≡ true → other v ≡ true
     apart v h = not-of-false (eqb x v) (not-true-false (eqb x v) (λ e. clash (ap (λ (u : ℕ). has u xs) (eqb-true x v e) ∙ h) (parts .0)))
+
+-- and fewer, where another number is in it
+pub distinct-less : (a b : List ℕ) (x : ℕ) → repeats a ≡ false → ((v : ℕ) → has v a ≡ true → has v b ≡ true)
+    → has x a ≡ false → has x b ≡ true → length a < length b
+unfolding repeats has
+distinct-less a b x r f out inside =
+    distinct-fewer (x ∷ a) b (rw (out, r)) (λ v e. ⊎-elim (λ q. rw (eqb-true x v q) at inside) (f v) (or-cases (eqb x v) (has v a) e))
 
 -- so equal sets of distinct numbers have one size
 pub same-size : (a b : List ℕ) → repeats a ≡ false → repeats b ≡ false → sameSet a b ≡ true → length a ≡ length b

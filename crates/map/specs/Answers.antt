@@ -9,10 +9,11 @@ use Rattle.numbers.specs.Half.{halfOf}
 use Rattle.numbers.specs.Room.{room}
 use Rattle.numbers.specs.declared.Caps.{Caps}
 use Rattle.shapes.specs.Shapes.{shape, facetCount}
-use Rattle.map.specs.Cells.{Body, Map, live, cellsOf, neighbours}
+use Rattle.map.specs.Cells.{Body, Map, live, setsOf, cellsOf, neighbours}
 use Rattle.map.specs.Siblings.{sharers, sibling, cycle, border}
 use Rattle.map.specs.Stars.{holders, star, anchors}
 use Rattle.numbers.specs.Sizes.{mostAround, mostCapacity}
+use Rattle.numbers.specs.Editions.{secondEdition, isEdition}
 use Rattle.shapes.specs.Sizes.{mostCorners}
 
 pub record Answer : Type 0 where
@@ -37,12 +38,21 @@ answer (c ∷ cs) values = cond (c .fails) (record { refusal = c .number; values
 unfoldable pub listAnswer : List Check → List ℕ → ℕ → Answer
 listAnswer checks l places = answer (checks ++ ((12 when ltb places (length l)) ∷ [])) (length l ∷ [])
 
--- "Format: 1, 2."
+-- "6 for another edition, before 1 and like it"; "Format: 1, 2."
 unfoldable pub formatChecks : ℕ → Caps → List Check
 formatChecks words caps =
-    (1 when ltb mostCapacity (caps .marks) || ltb mostCapacity (caps .cells)) ∷ (2 when ltb words (room (caps .marks) (caps .cells))) ∷ []
+    (6 when not (isEdition (caps .edition)))
+    ∷ (1 when ltb mostCapacity (caps .marks) || ltb mostCapacity (caps .cells))
+    ∷ (2 when ltb words (room (caps .marks) (caps .cells)))
+    ∷ []
 
--- "Insert: 3, 4, 6, 7, 8, 9, 10, 11."
+-- "Under edition 2, an insert that would put a third solid on a face is refused.": one of its faces has two already
+unfoldable pub third : Map → Body → Bool
+third m x =
+    eqb (m .caps .edition) secondEdition
+    && (eqb (shape (x .code) .dimension) 3 && any (λ (face : List ℕ). leb 2 (length (sharers m face))) (setsOf (x .code) (x .marks)))
+
+-- "Insert: 3, 4, 6, 7, 8, 9, 10, 11."; "19 for the third solid, after 10 and before 11"
 unfoldable pub insertChecks : Map → ℕ → Body → List Check
 insertChecks m c x =
     (3 when leb (m .caps .cells) c)
@@ -52,6 +62,7 @@ insertChecks m c x =
     ∷ (8 when any (leb (m .caps .marks)) (x .marks))
     ∷ (9 when repeats (x .marks))
     ∷ (10 when any (λ k. sameSet (m .at k .marks) (x .marks)) (cellsOf m (x .code)))
+    ∷ (19 when third m x)
     ∷ (11 when any (λ v. leb mostAround (length (holders m v))) (x .marks))
     ∷ []
 
@@ -119,3 +130,7 @@ countAnswer m t = answer (typeChecks t) (length (cellsOf m t) ∷ [])
 -- "After an edit a step gives the sibling as it is then, or the refusal for that half-facet."
 unfoldable pub stepAnswer : Map → ℕ → Answer
 stepAnswer m h = siblingAnswer m (h / 8) (h % 8)
+
+-- "an edition number, 1 or 2, kept in the head", read back
+unfoldable pub editionAnswer : Map → Answer
+editionAnswer m = answer [] (m .caps .edition ∷ [])

@@ -3,7 +3,8 @@ use mathlib.Core.Bool.{Bool, true, false, not, _&&_}
 use mathlib.Core.List.{List, [], _∷_, _++_}
 use Prim.Native.Nat.{ℕ, zero, suc, _+_, _*_}
 use Rattle.lists.specs.Lists.{all, same, select}
-use Rattle.numbers.specs.Sizes.{mostAround, capacities}
+use Rattle.numbers.specs.Sizes.{mostAround, capsUnder}
+use Rattle.numbers.specs.Editions.{firstEdition, secondEdition}
 use Rattle.map.specs.Cells.{bodyOf, Map}
 use Rattle.map.specs.Siblings.{isHalf, border}
 use Rattle.map.specs.Stars.{star, anchors}
@@ -42,13 +43,18 @@ ask m AllStars = 0 ∷ joined (λ d. joined (star m (suc d)) (m .caps .marks)) 3
 ask m AllAnchors = 0 ∷ joined (λ d. joined (anchors m (suc d)) (m .caps .marks)) 3
 
 pub record CaseRow : Type 0 where
+  pub edition : ℕ
   pub edits : List Edit
   pub question : Question
   pub answer : List ℕ
 
 infix 20 _asked_gives_
 unfoldable pub _asked_gives_ : List Edit → Question → List ℕ → CaseRow
-edits asked q gives l = record { edits = edits; question = q; answer = l }
+edits asked q gives l = record { edition = firstEdition; edits = edits; question = q; answer = l }
+
+-- the row under edition 2
+unfoldable pub second : CaseRow → CaseRow
+second r = record { edition = secondEdition; edits = r .edits; question = r .question; answer = r .answer }
 
 -- the meshes of the cases, of 12 marks and 4 cells
 unfoldable pub bar : ℕ → ℕ → ℕ → Edit
@@ -102,6 +108,12 @@ bricks = brick 0 0 ∷ brick 1 4 ∷ []
 unfoldable pub solids : List Edit
 solids = brick 0 0 ∷ Insert 1 (bodyOf 6 (1 ∷ 2 ∷ 8 ∷ 5 ∷ 6 ∷ 9 ∷ [])) ∷ Insert 2 (bodyOf 5 (4 ∷ 6 ∷ 5 ∷ 7 ∷ 8 ∷ [])) ∷ quad 3 4 5 6 7 ∷ []
 
+unfoldable pub threeTetras : List Edit
+threeTetras = tetra 0 0 1 2 3 ∷ tetra 1 0 2 1 4 ∷ tetra 2 1 0 2 5 ∷ []
+
+unfoldable pub oneGone : List Edit
+oneGone = tetra 0 0 1 2 3 ∷ tetra 1 0 2 1 4 ∷ Remove 0 ∷ []
+
 unfoldable pub rows : List CaseRow
 rows =
     -- P1 no cells: every star and anchor list is empty
@@ -154,11 +166,25 @@ rows =
     ∷ (solids asked Inner gives 0 ∷ 2 ∷ 5 ∷ 8 ∷ 16 ∷ [])
     -- "6 covers codes above 7"
     ∷ ([] asked Try (Insert 0 (bodyOf 8 [])) gives 6 ∷ [])
+    -- request 8: under edition 2 a third solid on P6's face of marks 0, 1 and 2 is refused, of any type; after a removal it is none
+    ∷ second (p6 asked Try (tetra 2 1 0 2 5) gives 19 ∷ [])
+    ∷ second (p6 asked Try (Insert 2 (bodyOf 5 (0 ∷ 1 ∷ 5 ∷ 6 ∷ 2 ∷ []))) gives 19 ∷ [])
+    ∷ second (oneGone asked Try (tetra 2 1 0 2 5) gives 0 ∷ [])
+    -- a face of four marks, in crossed order
+    ∷ second (bricks asked Try (Insert 2 (bodyOf 5 (4 ∷ 6 ∷ 5 ∷ 7 ∷ 8 ∷ []))) gives 19 ∷ [])
+    -- 10 comes before; two solids, a triangle on their face and a third triangle on an edge are accepted
+    ∷ second (p6 asked Try (tetra 2 4 0 1 2) gives 10 ∷ [])
+    ∷ second (p6 asked Sibling 0 0 gives 0 ∷ 8 ∷ [])
+    ∷ second (p6 asked Try (tri 2 0 1 2) gives 0 ∷ [])
+    ∷ second (p4 asked Sibling 2 0 gives 0 ∷ 0 ∷ [])
+    -- and under edition 1 a third solid is
+    ∷ (threeTetras asked Sibling 1 0 gives 0 ∷ 16 ∷ [])
+    ∷ second (threeTetras asked Sibling 1 0 gives 0 ∷ 0 ∷ [])
     ∷ []
 
 -- a row holds: the mesh of its edits answers as it says
 unfoldable pub holdsRow : CaseRow → Bool
-holdsRow r = same (ask (history (empty (capacities 12 4)) (r .edits)) (r .question)) (r .answer)
+holdsRow r = same (ask (history (empty (capsUnder (r .edition) 12 4)) (r .edits)) (r .question)) (r .answer)
 
 unfoldable pub hold : List CaseRow → Bool
 hold l = all holdsRow l

@@ -1,13 +1,17 @@
 -- What the accepted edits keep true of every map.
 use mathlib.Core.Path.{_≡_}
-use mathlib.Core.Bool.{true, false}
-use Prim.Native.Nat.{ℕ, _<_, _≤_}
+use mathlib.Core.Bool.{true, false, _&&_}
+use mathlib.Core.List.{List}
+use Prim.Native.Nat.{ℕ, _/_, _<_, _≤_}
+use lib.Dec.{eqb}
 use lib.ListN.{length}
-use Rattle.lists.specs.Lists.{repeats, sameSet}
+use Rattle.lists.specs.Lists.{any, select, repeats, sameSet}
 use Rattle.shapes.specs.Shapes.{shape}
-use Rattle.map.specs.Cells.{Map, noCell, live, dimensionAt, holds}
+use Rattle.map.specs.Cells.{Map, noCell, live, dimensionAt, holds, facetsAt}
+use Rattle.map.specs.Siblings.{Half, siblings}
 use Rattle.map.specs.Stars.{holders}
 use Rattle.numbers.specs.Sizes.{mostAround}
+use Rattle.numbers.specs.Editions.{secondEdition}
 
 -- every cell has as many marks as its type says
 pub record Fitting (m : Map) : Type 0 where
@@ -26,3 +30,11 @@ pub record Sound (m : Map) : Type 0 where
   pub alone : (a b : ℕ) → live m a ≡ true → m .at a .code ≡ m .at b .code → sameSet (m .at a .marks) (m .at b .marks) ≡ true → a ≡ b
   -- "A mark may stand in at most 128 live cells, all dimensions together."
   pub few : (v : ℕ) → length (holders m v) ≤ mostAround
+
+-- the solids on a face, ascending: a face is given by its set of marks
+unfoldable pub solidsOn : Map → List ℕ → List ℕ
+solidsOn m face = select (λ c. eqb (dimensionAt m c) 3 && any (sameSet face) (facetsAt m c)) (m .caps .cells)
+
+-- "a face may lie between two solids at most", under edition 2
+pub record TwoSolids (m : Map) : Type 0 where
+  pub most : m .caps .edition ≡ secondEdition → (h : ℕ) → Half m h → dimensionAt m (h / 8) ≡ 3 → length (siblings m h) ≤ 2

@@ -26,6 +26,7 @@ pub enum Refusal {
     FacetOutside,
     NotMesh,
     BadFrame,
+    FaceFull,
 }
 
 // The outline's number of a refusal.
@@ -48,6 +49,7 @@ pub fn number_of(r: Refusal) -> u32
         Refusal::FacetOutside => 13,
         Refusal::NotMesh => 14,
         Refusal::BadFrame => 15,
+        Refusal::FaceFull => 19,
     }
 }
 

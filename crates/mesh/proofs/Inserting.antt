@@ -70,7 +70,7 @@ module _ (caps : Caps) (c : ℕ) (x : Body) (rows : List (List (List ℕ))) (typ
           let q₂ = (rw (sym e) at p₂) .state _ q₁ (may-links m (wf .sound) c x r) in
           let q₃ = (rw (sym e) at p₃) .state _ q₂ (rw types (may-settle m (wf .sound) c x r)) in
           let q₄ = (rw (sym e) at p₄) .state _ q₃ a in
-          inserted m (wf .sound) c x r w₄ (rw n at q₄)
+          inserted m (wf .sound) c x r (wf .two) w₄ (rw n at q₄)
 
 -- the answer of an insertion is that of its checks
 pub insert-says : (m : Map) (c : ℕ) (x : Body) → editAnswer m (Insert c x) ≡ answer (insertChecks m c x) []

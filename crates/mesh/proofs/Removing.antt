@@ -86,7 +86,7 @@ module _ (caps : Caps) (c t : ℕ) (marks : List ℕ) (rows : List (List (List �
           let q₃ = (rw (sym e) at p₃) .state _ q₂ (r .number) in
           let q₄ = (rw (sym e) at p₄) .state _ q₃ (rw (types, h, q) (may-settle m (wf .sound) c r)) in
           let q₅ = (rw (sym e) at p₅) .state _ q₄ (omega (arith, a .0, q), omega (arith, a .1, q)) in
-          removed m (wf .sound) c r w₅ (rw (n, h, q) at q₅)
+          removed m (wf .sound) c r (wf .two) w₅ (rw (n, h, q) at q₅)
 
 -- the marks of the record are the cell's marks
 module _ (w : List ℕ) (caps : Caps) (c : ℕ) (zeros held : List ℕ) (filled : Filled (marksIn w caps c) zeros held) (room : length zeros ≡ mostMarks) where

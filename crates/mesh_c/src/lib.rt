@@ -5,8 +5,8 @@
 // leaves what was lent as it was, on any memory (specs/Answered.antt, specs/Changed.antt). What a caller should know: a list is a pointer
 // and a count of 32-bit words, aligned to 4 bytes; what a call writes may not overlap anything else that is lent to it.
 ghost use Rattle.numbers.specs.Half.{halfOf};
-ghost use Rattle.numbers.specs.Sizes.{capacities};
-ghost use Rattle.map.specs.Answers.{cellChecks, halfChecks, starChecks, typeChecks, typeAnswer, siblingAnswer, borderAnswer, firstAnchorAnswer, lookupAnswer, countAnswer};
+ghost use Rattle.numbers.specs.Sizes.{capsUnder, capacities};
+ghost use Rattle.map.specs.Answers.{cellChecks, halfChecks, starChecks, typeChecks, typeAnswer, siblingAnswer, borderAnswer, firstAnchorAnswer, lookupAnswer, countAnswer, editionAnswer};
 ghost use Rattle.map.specs.Cells.{bodyOf, cellsOf, neighbours};
 ghost use Rattle.map.specs.Siblings.{cycle};
 ghost use Rattle.map.specs.Stars.{star, anchors};
@@ -19,6 +19,7 @@ use ask::first_anchor;
 use ask::sibling;
 use ask::type_of;
 use build::build;
+use build::build_edition;
 use c_answers::byte_of;
 use c_answers::tell_built;
 use c_answers::tell_found;
@@ -27,6 +28,7 @@ use c_answers::tell_truth;
 use c_answers::tell_value;
 use c_answers::tell_verdict;
 use format::format;
+use format::format_edition;
 use listing::anchors;
 use listing::cells_of_type;
 use listing::cycle;
@@ -53,6 +55,14 @@ pub extern "C" fn mk_format(mesh: &mut [u32], marks: u32, cells: u32) -> u8
     tell_verdict(format(mesh, marks, cells))
 }
 
+// A mesh of these capacities and this edition with no live cell.
+#[no_mangle]
+pub extern "C" fn mk_format_edition(mesh: &mut [u32], marks: u32, cells: u32, edition: u32) -> u8
+    ensures { λ r. ⌜ Emptied (now (mesh .entry)) (capsUnder edition marks cells) r (now (mesh .exit)) ⌝ }
+{
+    tell_verdict(format_edition(mesh, marks, cells, edition))
+}
+
 // A mesh of these capacities with the cells of the records; where a record is refused, its place.
 #[no_mangle]
 pub extern "C" fn mk_build(
@@ -65,6 +75,21 @@ pub extern "C" fn mk_build(
     ensures { λ r. ⌜ Raised (now (mesh .entry)) (capacities marks cells) (now (records .entry)) (now (place .entry)) r (now (mesh .exit)) (now (place .exit)) ⌝ }
 {
     tell_built(build(mesh, marks, cells, records), place)
+}
+
+// A mesh of these capacities and this edition with the cells of the records; where a record is refused, its place.
+#[no_mangle]
+pub extern "C" fn mk_build_edition(
+    mesh: &mut [u32],
+    marks: u32,
+    cells: u32,
+    edition: u32,
+    records: &[u32],
+    place: &mut u32,
+) -> u8
+    ensures { λ r. ⌜ Raised (now (mesh .entry)) (capsUnder edition marks cells) (now (records .entry)) (now (place .entry)) r (now (mesh .exit)) (now (place .exit)) ⌝ }
+{
+    tell_built(build_edition(mesh, marks, cells, edition, records), place)
 }
 
 // A cell of the caller's number, of a type, on marks.
@@ -219,6 +244,14 @@ pub extern "C" fn mk_count(mesh: &[u32], code: u32, count: &mut u32) -> u8
     ensures { λ r. ⌜ Answered (now (mesh .entry)) (λ m. countAnswer m code) (now (count .entry)) r (now (count .exit)) ⌝ }
 {
     tell_value(count_of_type(mesh, code), count)
+}
+
+// The edition that the mesh was formatted under.
+#[no_mangle]
+pub extern "C" fn mk_edition(mesh: &[u32], edition: &mut u32) -> u8
+    ensures { λ r. ⌜ Answered (now (mesh .entry)) editionAnswer (now (edition .entry)) r (now (edition .exit)) ⌝ }
+{
+    tell_value(ask::edition(mesh), edition)
 }
 
 // The whole check: 1 for yes, 0 for no.

@@ -1,3 +1,4 @@
+pub mod Editions
 pub mod Half
 pub mod Room
 pub mod Sizes

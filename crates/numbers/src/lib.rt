@@ -7,6 +7,7 @@
 ghost use mathlib.Core.Path.{_≡_};
 ghost use Prim.Native.Nat.{_/_, _%_};
 ghost use Rattle.numbers.specs.Half.{halfOf, cut};
+ghost use Rattle.numbers.specs.Editions.{isEdition};
 
 // "Capacities: 0 to 65,535 marks and 0 to 65,535 cells."
 pub const MOST_CAPACITY: u32 = 65535;
@@ -17,10 +18,26 @@ pub const PAST_CELLS: u32 = 65536;
 // "A mark may stand in at most 128 live cells, all dimensions together."
 pub const MOST_AROUND: u32 = 128;
 
-// The capacities of a mesh.
+// The editions of the sheet rules; the outline's own forms mean the first.
+pub const FIRST_EDITION: u32 = 1;
+
+pub const SECOND_EDITION: u32 = 2;
+
+// What a mesh was formatted for: its capacities and its edition.
 pub struct Caps {
     pub marks: u32,
     pub cells: u32,
+    pub edition: u32,
+}
+
+// Whether there is such an edition.
+pub fn is_edition(edition: u32) -> bool
+    ensures { λ r. ⌜ r ≡ isEdition edition ⌝ }
+{
+    if edition == FIRST_EDITION {
+        return true;
+    }
+    edition == SECOND_EDITION
 }
 
 // A mark's number.

@@ -4,7 +4,7 @@ use mathlib.Core.Bool.{Bool}
 use mathlib.Core.List.{List}
 use Prim.Native.Nat.{ℕ, _+_, _*_}
 use Rattle.numbers.specs.declared.Caps.{Caps}
-use Rattle.store.specs.Fields.{Magic, MarkCap, CellCap, Count, HeadRest, First, Held, Anchor, MarkRest, Code, Near, Sib, Link, Far, CellRest}
+use Rattle.store.specs.Fields.{Magic, MarkCap, CellCap, Edition, Count, HeadRest, First, Held, Anchor, MarkRest, Code, Near, Sib, Link, Far, CellRest}
 use Rattle.store.specs.Slots.{Slot, InHead, InMark, InCell, Within}
 use Rattle.map.specs.Cells.{Body}
 use Rattle.picture.specs.State.{State}
@@ -24,6 +24,7 @@ module _ (caps : Caps) (s : State) (sib : ℕ → ℕ) (anc : ℕ → ℕ → �
   word-retold (InHead Magic) sibs ancs counts = refl
   word-retold (InHead MarkCap) sibs ancs counts = refl
   word-retold (InHead CellCap) sibs ancs counts = refl
+  word-retold (InHead Edition) sibs ancs counts = refl
   word-retold (InHead (Count t)) sibs ancs counts = counts t refl
   word-retold (InHead (HeadRest k)) sibs ancs counts = refl
   word-retold (InMark v First) sibs ancs counts = refl

@@ -207,6 +207,7 @@ module _ (caps : Caps) (s : State) (c t : ℕ) (marks : List ℕ) (far : Bool) (
       body-pic = record {
         marks = p .marks;
         cells = p .cells;
+        edition = p .edition;
         fits = rw e (omega (arith, size, write-only w₂ caps t (InCell c Code) .size));
         words = at;
       }

@@ -28,6 +28,7 @@ module _ (w : List ℕ) (caps : Caps) (s s′ : State) (x : Slot) (y : ℕ) wher
   pic-put p in-x e same = record {
     marks = p .marks;
     cells = p .cells;
+    edition = p .edition;
     fits = omega (arith, p .fits, length-set w (address (caps .marks) (caps .cells) x) y);
     words = λ z in-z. at z in-z (ℕ-discrete (address (caps .marks) (caps .cells) z) (address (caps .marks) (caps .cells) x));
   }
@@ -61,7 +62,7 @@ put-step caps w w′ x y ok f e may here other = record {
 -- a picture depends on the words of the state alone
 pub pic-same : (w : List ℕ) (caps : Caps) (s s′ : State)
     → ((z : Slot) → Within (caps .marks) (caps .cells) z → wordOf caps s z ≡ wordOf caps s′ z) → Pic w caps s → Pic w caps s′
-pic-same w caps s s′ same p = record { marks = p .marks; cells = p .cells; fits = p .fits; words = λ z h. p .words z h ∙ same z h }
+pic-same w caps s s′ same p = record { marks = p .marks; cells = p .cells; edition = p .edition; fits = p .fits; words = λ z h. p .words z h ∙ same z h }
 
 -- two pictures of one state are equal word for word
 pub pic-one : (w w′ : List ℕ) (caps : Caps) (s : State) → Pic w caps s → Pic w′ caps s

@@ -1,6 +1,6 @@
 -- The picture: what each field of the room holds, by the capacities and the state.
 use mathlib.Core.Path.{_≡_}
-use mathlib.Core.Bool.{cond, _&&_}
+use mathlib.Core.Bool.{true, cond, _&&_}
 use mathlib.Core.List.{List}
 use Prim.Native.Nat.{ℕ, zero, suc, _+_, _*_, _≤_}
 use lib.Dec.{leb, ltb}
@@ -8,11 +8,12 @@ use lib.ListN.{getD, length}
 use Rattle.lists.specs.Lists.{select, keep, place}
 use Rattle.numbers.specs.declared.Caps.{Caps}
 use Rattle.numbers.specs.Sizes.{mostCapacity}
+use Rattle.numbers.specs.Editions.{isEdition}
 use Rattle.store.specs.Layout.{nearMarks, magic, room}
-use Rattle.store.specs.Fields.{HeadField, Magic, MarkCap, CellCap, Count, HeadRest, MarkField, First, Held, Anchor, MarkRest, CellField, Code, Near, Sib, Link, Far, CellRest}
+use Rattle.store.specs.Fields.{HeadField, Magic, MarkCap, CellCap, Edition, Count, HeadRest, MarkField, First, Held, Anchor, MarkRest, CellField, Code, Near, Sib, Link, Far, CellRest}
 use Rattle.store.specs.Slots.{Slot, InHead, InMark, InCell, Within, read}
 use Rattle.map.specs.Cells.{Body, Map}
-use Rattle.map.specs.Sound.{Sound}
+use Rattle.map.specs.Sound.{Sound, TwoSolids}
 use Rattle.picture.specs.State.{State, next, stateOf}
 
 -- the chain of a mark: its cells, ascending
@@ -44,6 +45,7 @@ unfoldable pub headWord : Caps → (ℕ → ℕ) → HeadField → ℕ
 headWord caps count Magic = magic
 headWord caps count MarkCap = caps .marks
 headWord caps count CellCap = caps .cells
+headWord caps count Edition = caps .edition
 headWord caps count (Count t) = count t
 headWord caps count (HeadRest k) = 0
 
@@ -71,10 +73,12 @@ wordOf caps s (InCell c f) = cellWord caps s c f
 pub record Pic (w : List ℕ) (caps : Caps) (s : State) : Type 0 where
   pub marks : caps .marks ≤ mostCapacity
   pub cells : caps .cells ≤ mostCapacity
+  pub edition : isEdition (caps .edition) ≡ true
   pub fits : room (caps .marks) (caps .cells) ≤ length w
   pub words : (x : Slot) → Within (caps .marks) (caps .cells) x → read w caps x ≡ wordOf caps s x
 
 -- well-formed: the picture of a sound map
 pub record Wf (w : List ℕ) (m : Map) : Type 0 where
   pub sound : Sound m
+  pub two : TwoSolids m
   pub picture : Pic w (m .caps) (stateOf m)

@@ -17,9 +17,10 @@ use Rattle.words.proofs.Fits.{part-length}
 use Rattle.shapes.specs.Shapes.{shape, facetCount}
 use Rattle.shapes.proofs.Facts.{facts}
 use Rattle.numbers.specs.declared.Caps.{Caps}
+use Rattle.numbers.specs.Editions.{isEdition}
 use Rattle.numbers.specs.Sizes.{mostCapacity}
 use Rattle.store.specs.Layout.{nearMarks, magic, room, nearAt, farAt}
-use Rattle.store.specs.Fields.{Magic, MarkCap, CellCap, Near, Sib, Link, Far}
+use Rattle.store.specs.Fields.{Magic, MarkCap, CellCap, Edition, Near, Sib, Link, Far}
 use Rattle.store.specs.Slots.{InCell, read, codeIn, cornerIn, marksAt}
 use Rattle.store.specs.Open.{headIn}
 use Rattle.store.specs.Rests.{headBlank, markBlank, cellBlank}
@@ -35,8 +36,10 @@ pub record Headed (w : List ℕ) (caps : Caps) : Type 0 where
   pub first : headIn w Magic ≡ magic
   pub marks : headIn w MarkCap ≡ caps .marks
   pub cells : headIn w CellCap ≡ caps .cells
+  pub edition : headIn w Edition ≡ caps .edition
   pub marks-few : caps .marks ≤ mostCapacity
   pub cells-few : caps .cells ≤ mostCapacity
+  pub is-edition : isEdition (caps .edition) ≡ true
   pub fits : room (caps .marks) (caps .cells) ≤ length w
 
 module _ (w : List ℕ) (caps : Caps) (hd : Headed w caps) (laid : laidIn w caps ≡ true) where

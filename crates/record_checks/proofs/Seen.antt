@@ -11,7 +11,7 @@ use lib.ListN.{getD, length}
 use Rattle.lists.specs.Lists.{has, repeats}
 use Rattle.lists.proofs.Members.{at-has}
 use Rattle.numbers.specs.declared.Caps.{Caps}
-use Rattle.store.specs.Fields.{Magic, MarkCap, CellCap, Count, HeadRest, First, Held, Anchor, MarkRest, Code, Near, Sib, Link, Far, CellRest}
+use Rattle.store.specs.Fields.{Magic, MarkCap, CellCap, Edition, Count, HeadRest, First, Held, Anchor, MarkRest, Code, Near, Sib, Link, Far, CellRest}
 use Rattle.store.specs.Slots.{Slot, InHead, InMark, InCell, address, Within, read, codeIn}
 use Rattle.store.specs.Open.{headIn}
 use Rattle.store.proofs.Rests.{head-rest, mark-rest, cell-rest}
@@ -130,6 +130,7 @@ module _ (w : List ℕ) (caps : Caps) (hd : Headed w caps) (laid : laidIn w caps
   slot-seen (InHead Magic) h = hd .first
   slot-seen (InHead MarkCap) h = hd .marks
   slot-seen (InHead CellCap) h = hd .cells
+  slot-seen (InHead Edition) h = hd .edition
   slot-seen (InHead (Count t)) h = refl
   slot-seen (InHead (HeadRest k)) h = head-rest w caps (head-passes w caps hd laid) k h
   slot-seen (InMark v First) h = head-seen v (h .0)
@@ -145,4 +146,4 @@ module _ (w : List ℕ) (caps : Caps) (hd : Headed w caps) (laid : laidIn w caps
 
   -- memory is the picture of the state that it tells
   pub seen-pic : Pic w caps (seen w caps)
-  seen-pic = record { marks = hd .marks-few; cells = hd .cells-few; fits = hd .fits; words = slot-seen }
+  seen-pic = record { marks = hd .marks-few; cells = hd .cells-few; edition = hd .is-edition; fits = hd .fits; words = slot-seen }

@@ -10,6 +10,7 @@ use lib.ListN.{length, take, drop, length-take, length-append}
 use lib.Seq.{take-append-seam}
 use Rattle.lists.proofs.Bools.{or-left, or-right}
 use Rattle.numbers.specs.Sizes.{mostCapacity, mostAround, capacities}
+use Rattle.numbers.specs.Editions.{isEdition}
 use Rattle.numbers.specs.Room.{room}
 use Rattle.words.specs.Words.{Only, partOf}
 use Rattle.words.proofs.Fits.{part-fits}
@@ -116,7 +117,7 @@ module _ (w o : List ℕ) (at r : ℕ) (o′ : List ℕ) where
     cells-above h a = above-so (or-right (ltb 384 marks) (ltb 384 cells) (lt-ltb 384 cells h)) a
 
     format-accepts : (v : Verdict) → marks ≤ 384 → cells ≤ 384 → room 384 384 ≤ length w → verdictSays v ≡ answer (formatChecks (length w) (capacities marks cells)) [] → v ≡ Accepted
-    unfolding answer formatChecks _when_ verdictSays given room
+    unfolding answer formatChecks _when_ isEdition verdictSays given room
     format-accepts v a b h e =
         verdict-one v Accepted
         (e ∙ rw (le-ltb mostCapacity marks (omega arith), le-ltb mostCapacity cells (omega arith), le-ltb (length w) (room marks cells) (omega arith)))

@@ -21,9 +21,11 @@ unfolding room read
 keeps-alike a b m k h same = record {
   wf = record {
     sound = k .wf .sound;
+    two = k .wf .two;
     picture = record {
       marks = k .wf .picture .marks;
       cells = k .wf .picture .cells;
+      edition = k .wf .picture .edition;
       fits = omega (arith, k .marks, k .cells);
       words = λ x e.
           same (address (m .caps .marks) (m .caps .cells) x) (omega (arith, k .marks, k .cells, slot-below (m .caps .marks) (m .caps .cells) x e))

@@ -5,7 +5,7 @@ use Prim.Native.Nat.{ℕ, zero, suc, _+_, _<_, _≤_}
 use native.Mathlib.Nat.{not-suc-le-zero, eq-or-lt-of-le}
 use native.Mathlib.Omega.{arith}
 use mathlib.Core.Path.{subst}
-use Rattle.store.specs.Fields.{HeadField, Magic, MarkCap, CellCap, Count, HeadRest, MarkField, First, Held, Anchor, MarkRest, CellField, Code, Near, Sib, Link, Far, CellRest, Place, InNear, InFar, headPlace, headFields, headField, markPlace, markFields, markField, cellPlace, nearFields, farFields, cellField, HeadFits, MarkFits, PlaceFits, CellFits}
+use Rattle.store.specs.Fields.{HeadField, Magic, MarkCap, CellCap, Edition, Count, HeadRest, MarkField, First, Held, Anchor, MarkRest, CellField, Code, Near, Sib, Link, Far, CellRest, Place, InNear, InFar, headPlace, headFields, headField, markPlace, markFields, markField, cellPlace, nearFields, farFields, cellField, HeadFits, MarkFits, PlaceFits, CellFits}
 use Rattle.shapes.specs.Sizes.{mostCode, mostFacets, mostMarks}
 use Rattle.store.specs.Layout.{markWords, nearMarks}
 
@@ -30,7 +30,7 @@ head-places = ((((((((((((((((none, refl), refl), refl), refl), refl), refl), re
 
 head-fits : Below (λ k. HeadFits (headField k)) 16
 unfolding Below headField headFields
-head-fits = ((((((((((((((((none, omega arith), omega arith), omega arith), (omega arith, refl)), (omega arith, refl)), (omega arith, omega arith)), (omega arith, omega arith)), (omega arith, omega arith)), (omega arith, omega arith)), (omega arith, omega arith)), (omega arith, omega arith)), (omega arith, omega arith)), (omega arith, refl)), (omega arith, refl)), (omega arith, refl)), (omega arith, refl))
+head-fits = ((((((((((((((((none, omega arith), omega arith), omega arith), omega arith), (omega arith, refl)), (omega arith, omega arith)), (omega arith, omega arith)), (omega arith, omega arith)), (omega arith, omega arith)), (omega arith, omega arith)), (omega arith, omega arith)), (omega arith, omega arith)), (omega arith, refl)), (omega arith, refl)), (omega arith, refl)), (omega arith, refl))
 
 pub head-of : (k : ℕ) → k < 16 → (headPlace (headField k) ≡ k) × HeadFits (headField k)
 head-of k h = (below (λ k. headPlace (headField k) ≡ k) 16 head-places k h, below (λ k. HeadFits (headField k)) 16 head-fits k h)
@@ -44,6 +44,7 @@ unfolding headPlace headField headFields
 head-at Magic h = (omega arith, refl)
 head-at MarkCap h = (omega arith, refl)
 head-at CellCap h = (omega arith, refl)
+head-at Edition h = (omega arith, refl)
 head-at (Count zero) h = absurd (omega arith)
 head-at (Count (suc t)) h = (omega arith, below (λ t. headField (4 + suc t) ≡ Count (suc t)) mostCode head-counts t (omega arith))
 head-at (HeadRest k) h = h

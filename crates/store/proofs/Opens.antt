@@ -7,9 +7,10 @@ use borrow.Author.Tests.{le-leb, lt-leb, eq-eqb, ne-eqb}
 use lib.Dec.{leb, eqb}
 use lib.ListN.{getD, length}
 use Rattle.numbers.specs.Sizes.{mostCapacity}
+use Rattle.numbers.specs.Editions.{isEdition}
 use Rattle.store.specs.declared.Opened.the-variants.{Mesh, Nothing}
 use Rattle.store.specs.Layout.{room, magic}
-use Rattle.store.specs.Fields.{Magic, MarkCap, CellCap}
+use Rattle.store.specs.Fields.{Magic, MarkCap, CellCap, Edition}
 use Rattle.store.specs.Open.{headIn, capsIn, isMesh, opened}
 
 module _ (w : List ℕ) where
@@ -39,24 +40,38 @@ module _ (w : List ℕ) where
             )
 
         module _ (d : headIn w CellCap ≤ mostCapacity) where
-          pub open-room : length w < room (headIn w MarkCap) (headIn w CellCap) → opened w ≡ Nothing
+          pub open-edition : isEdition (headIn w Edition) ≡ false → opened w ≡ Nothing
           unfolding opened isMesh
-          open-room e =
+          open-edition e =
               simp (
                 le-leb 16 (length w) a,
                 eq-eqb (headIn w Magic) magic b,
                 le-leb (headIn w MarkCap) mostCapacity c,
                 le-leb (headIn w CellCap) mostCapacity d,
-                lt-leb (room (headIn w MarkCap) (headIn w CellCap)) (length w) e,
+                e,
               )
 
-          pub open-mesh : room (headIn w MarkCap) (headIn w CellCap) ≤ length w → opened w ≡ Mesh (capsIn w)
-          unfolding opened isMesh
-          open-mesh e =
-              simp (
-                le-leb 16 (length w) a,
-                eq-eqb (headIn w Magic) magic b,
-                le-leb (headIn w MarkCap) mostCapacity c,
-                le-leb (headIn w CellCap) mostCapacity d,
-                le-leb (room (headIn w MarkCap) (headIn w CellCap)) (length w) e,
-              )
+          module _ (i : isEdition (headIn w Edition) ≡ true) where
+            pub open-room : length w < room (headIn w MarkCap) (headIn w CellCap) → opened w ≡ Nothing
+            unfolding opened isMesh
+            open-room e =
+                simp (
+                  le-leb 16 (length w) a,
+                  eq-eqb (headIn w Magic) magic b,
+                  le-leb (headIn w MarkCap) mostCapacity c,
+                  le-leb (headIn w CellCap) mostCapacity d,
+                  i,
+                  lt-leb (room (headIn w MarkCap) (headIn w CellCap)) (length w) e,
+                )
+
+            pub open-mesh : room (headIn w MarkCap) (headIn w CellCap) ≤ length w → opened w ≡ Mesh (capsIn w)
+            unfolding opened isMesh
+            open-mesh e =
+                simp (
+                  le-leb 16 (length w) a,
+                  eq-eqb (headIn w Magic) magic b,
+                  le-leb (headIn w MarkCap) mostCapacity c,
+                  le-leb (headIn w CellCap) mostCapacity d,
+                  i,
+                  le-leb (room (headIn w MarkCap) (headIn w CellCap)) (length w) e,
+                )

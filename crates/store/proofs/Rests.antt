@@ -13,7 +13,7 @@ use Rattle.lists.proofs.Members.{all-has, has-all}
 use Rattle.lists.proofs.Every.{every-at}
 use Rattle.numbers.specs.declared.Caps.{Caps}
 use Rattle.store.specs.Layout.{markWords, markAt, nearAt, farAt}
-use Rattle.store.specs.Fields.{HeadField, Magic, MarkCap, CellCap, Count, HeadRest, MarkField, First, Held, Anchor, MarkRest, CellField, Code, Near, Sib, Link, Far, CellRest, Place, InNear, InFar, headPlace, headFields, headField, markPlace, markFields, markField, cellPlace, nearFields, farFields, cellField, HeadFits, MarkFits, CellFits}
+use Rattle.store.specs.Fields.{HeadField, Magic, MarkCap, CellCap, Edition, Count, HeadRest, MarkField, First, Held, Anchor, MarkRest, CellField, Code, Near, Sib, Link, Far, CellRest, Place, InNear, InFar, headPlace, headFields, headField, markPlace, markFields, markField, cellPlace, nearFields, farFields, cellField, HeadFits, MarkFits, CellFits}
 use Rattle.store.specs.Slots.{Slot, InHead, InMark, InCell, placeAt, address, read}
 use Rattle.store.specs.Rests.{headRests, markRests, nearRests, farRests, blank, headBlank, markBlank, cellBlank}
 use Rattle.store.proofs.Fields.{head-of, mark-of, cell-of}
@@ -23,6 +23,7 @@ headSilent : HeadField → Bool
 headSilent Magic = false
 headSilent MarkCap = false
 headSilent CellCap = false
+headSilent Edition = false
 headSilent (Count t) = false
 headSilent (HeadRest k) = true
 
@@ -31,6 +32,7 @@ unfolding headSilent headPlace
 head-silent Magic e = absurd (clash e refl)
 head-silent MarkCap e = absurd (clash e refl)
 head-silent CellCap e = absurd (clash e refl)
+head-silent Edition e = absurd (clash e refl)
 head-silent (Count t) e = absurd (clash e refl)
 head-silent (HeadRest k) e = refl
 

@@ -13,7 +13,7 @@ use denote.Ref.{RefT}
 use Rattle.words.specs.Words.{Only, Part}
 use Rattle.words.proofs.Frame.{only-none, only-put}
 use Rattle.store.specs.Layout.{nearMarks, room, markAt, nearAt, farAt}
-use Rattle.store.specs.Fields.{HeadField, Magic, MarkCap, CellCap, Count, HeadRest, MarkField, First, Held, Anchor, MarkRest, CellField, Code, Near, Sib, Link, Far, CellRest, headPlace, markPlace, cellPlace, HeadFits, MarkFits, CellFits}
+use Rattle.store.specs.Fields.{HeadField, Magic, MarkCap, CellCap, Edition, Count, HeadRest, MarkField, First, Held, Anchor, MarkRest, CellField, Code, Near, Sib, Link, Far, CellRest, headPlace, markPlace, cellPlace, HeadFits, MarkFits, CellFits}
 use Rattle.store.specs.Slots.{Slot, InHead, InMark, InCell, placeAt, address, Within, headOpen, markOpen, cellOpen, writable, read, written, cornerIn, marksAt}
 use Rattle.store.proofs.Slots.{slot-below}
 use Rattle.shapes.specs.Sizes.{mostCode, mostFacets, mostMarks}
@@ -45,6 +45,7 @@ unfolding headOpen
 head-open Magic e = omega arith
 head-open MarkCap e = omega arith
 head-open CellCap e = omega arith
+head-open Edition e = omega arith
 head-open (Count t) e = (leb-true 1 t (and-left (leb 1 t) (leb t mostCode) e), leb-true t mostCode (and-right (leb 1 t) (leb t mostCode) e))
 head-open (HeadRest k) e = never e
 

@@ -8,11 +8,12 @@ use lib.ListN.{getD}
 use Rattle.shapes.specs.Sizes.{mostCode, mostFacets, mostMarks}
 use Rattle.store.specs.Layout.{headWords, markWords, partWords, nearMarks}
 
--- a word of the head: what says that this is a mesh, the capacities, the live cells of a type; a word that says nothing
+-- a word of the head: what says that this is a mesh, the capacities, the edition, the live cells of a type; a word that says nothing
 pub data HeadField : Type 0 where
   Magic : HeadField
   MarkCap : HeadField
   CellCap : HeadField
+  Edition : HeadField
   Count : ℕ → HeadField
   HeadRest : ℕ → HeadField
 
@@ -20,12 +21,13 @@ unfoldable pub headPlace : HeadField → ℕ
 headPlace Magic = 0
 headPlace MarkCap = 1
 headPlace CellCap = 2
+headPlace Edition = 3
 headPlace (Count t) = 4 + t
 headPlace (HeadRest k) = k
 
 unfoldable pub headFields : List HeadField
 headFields =
-    Magic ∷ MarkCap ∷ CellCap ∷ HeadRest 3
+    Magic ∷ MarkCap ∷ CellCap ∷ Edition
     ∷ HeadRest 4 ∷ Count 1 ∷ Count 2 ∷ Count 3
     ∷ Count 4 ∷ Count 5 ∷ Count 6 ∷ Count 7
     ∷ HeadRest 12 ∷ HeadRest 13 ∷ HeadRest 14 ∷ HeadRest 15
@@ -101,6 +103,7 @@ abbrev pub HeadFits : HeadField → Type 0
 HeadFits Magic = 0 < headWords
 HeadFits MarkCap = 0 < headWords
 HeadFits CellCap = 0 < headWords
+HeadFits Edition = 0 < headWords
 HeadFits (Count t) = (1 ≤ t) × (t ≤ mostCode)
 HeadFits (HeadRest k) = (k < headWords) × (headField k ≡ HeadRest k)
 

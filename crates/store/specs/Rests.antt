@@ -10,7 +10,7 @@ use Rattle.store.specs.Slots.{Slot, InHead, InMark, InCell, read}
 
 -- in the head, in a mark's record, in either part of a cell's
 unfoldable pub headRests : List ℕ
-headRests = 3 ∷ 4 ∷ 12 ∷ 13 ∷ 14 ∷ 15 ∷ []
+headRests = 4 ∷ 12 ∷ 13 ∷ 14 ∷ 15 ∷ []
 
 unfoldable pub markRests : List ℕ
 markRests = 5 ∷ 6 ∷ 7 ∷ []

@@ -6,7 +6,7 @@ use lib.Dec.{leb, ltb}
 use lib.ListN.{getD, set}
 use Rattle.numbers.specs.declared.Caps.{Caps}
 use Rattle.store.specs.Layout.{nearMarks, markAt, nearAt, farAt}
-use Rattle.store.specs.Fields.{HeadField, Magic, MarkCap, CellCap, Count, HeadRest, MarkField, First, Held, Anchor, MarkRest, CellField, Code, Near, Sib, Link, Far, CellRest, Place, InNear, InFar, headPlace, markPlace, cellPlace, HeadFits, MarkFits, CellFits}
+use Rattle.store.specs.Fields.{HeadField, Magic, MarkCap, CellCap, Edition, Count, HeadRest, MarkField, First, Held, Anchor, MarkRest, CellField, Code, Near, Sib, Link, Far, CellRest, Place, InNear, InFar, headPlace, markPlace, cellPlace, HeadFits, MarkFits, CellFits}
 use Rattle.shapes.specs.Sizes.{mostCode, mostFacets, mostMarks}
 
 pub data Slot : Type 0 where
@@ -38,6 +38,7 @@ unfoldable pub headOpen : HeadField → Bool
 headOpen Magic = false
 headOpen MarkCap = false
 headOpen CellCap = false
+headOpen Edition = false
 headOpen (Count t) = leb 1 t && leb t mostCode
 headOpen (HeadRest k) = false
 

@@ -23,6 +23,7 @@ use numbers::MOST_CAPACITY;
 use numbers::Mark;
 use numbers::cell_of;
 use numbers::facet_of;
+use numbers::is_edition;
 use shapes::MOST_CODE;
 use shapes::MOST_FACETS;
 use shapes::MOST_MARKS;
@@ -71,11 +72,15 @@ pub fn open(w: &[u32]) -> Opened
     let caps = Caps {
         marks: word(w, 1),
         cells: word(w, 2),
+        edition: word(w, 3),
     };
     if MOST_CAPACITY < caps.marks {
         return Opened::Nothing;
     }
     if MOST_CAPACITY < caps.cells {
+        return Opened::Nothing;
+    }
+    if !is_edition(caps.edition) {
         return Opened::Nothing;
     }
     if w.len() < room_of(caps) {
@@ -91,6 +96,7 @@ pub fn write_head(w: &mut [u32], caps: Caps)
     put(w, 0, MAGIC);
     put(w, 1, caps.marks);
     put(w, 2, caps.cells);
+    put(w, 3, caps.edition);
 }
 
 // Where a record begins: a mark's, the first part of a cell's, the second part.
@@ -327,7 +333,7 @@ fn blank_at(w: &[u32], places: &[usize]) -> bool
 pub fn head_blank(w: &[u32], caps: Caps) -> bool
     ensures { λ r. ⌜ r ≡ headBlank (now (w .entry)) caps ⌝ }
 {
-    let places = [3usize, 4, 12, 13, 14, 15];
+    let places = [4usize, 12, 13, 14, 15];
     blank_at(w, &places)
 }
 

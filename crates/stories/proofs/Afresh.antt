@@ -1,4 +1,4 @@
--- What a story leaves is what a mesh of the same capacities is, built afresh from its live cells in any order.
+-- What a story leaves is what a mesh of the same capacities and edition is, built afresh from its live cells in any order.
 use mathlib.Core.Path.{_≡_, sym, ap, _∙_, subst}
 use mathlib.Core.Bool.{Bool, true}
 use mathlib.Core.List.{List, []}
@@ -27,6 +27,7 @@ use Rattle.whole.proofs.One.{whole-yes}
 use Rattle.stories.specs.Story.{Story}
 use Rattle.stories.proofs.Stories.{story-wf}
 use Rattle.numbers.specs.Sizes.{mostCapacity}
+use Rattle.numbers.specs.Editions.{isEdition}
 
 -- Two well-formed memories of one map answer every query alike. So, where they are one memory, nothing else fits the promise of a query.
 module _ {a b : List ℕ} {m : Map} (x : Wf a m) (y : Wf b m) where
@@ -44,29 +45,29 @@ module _ {a b : List ℕ} {m : Map} (x : Wf a m) (y : Wf b m) where
       let v = q .answers m y in
       (value-one r r′ (u .0 ∙ sym (v .0)), u .1 ∙ sym (v .1))
 
--- a format of capacities within the limits in memory as long as the room is accepted
-format-good : (words : ℕ) (caps : Caps) → caps .marks ≤ mostCapacity → caps .cells ≤ mostCapacity → room (caps .marks) (caps .cells) ≤ words
-    → formatRefusal words caps ≡ 0
+-- a format of capacities within the limits, of an edition that there is, in memory as long as the room is accepted
+format-good : (words : ℕ) (caps : Caps) → caps .marks ≤ mostCapacity → caps .cells ≤ mostCapacity → isEdition (caps .edition) ≡ true
+    → room (caps .marks) (caps .cells) ≤ words → formatRefusal words caps ≡ 0
 unfolding formatRefusal formatChecks _when_ answer
-format-good words caps p q fits =
+format-good words caps p q i fits =
     let passed : answer (formatChecks words caps) [] ≡ record { refusal = 0; values = [] } =
-    rw (le-ltb mostCapacity (caps .marks) p, le-ltb mostCapacity (caps .cells) q, le-ltb words (room (caps .marks) (caps .cells)) fits) in
+    rw (i, le-ltb mostCapacity (caps .marks) p, le-ltb mostCapacity (caps .cells) q, le-ltb words (room (caps .marks) (caps .cells)) fits) in
     ap (λ (a : Answer). a .refusal) passed
 
 module _ {w : List ℕ} {m : Map} (s : Story w m) (other : List Live) (order : Shuffled (liveCells m) other) {b b′ : List ℕ} {r : Built}
     (builds : Builds b (m .caps) (buildWords other) r b′) (fits : room (m .caps .marks) (m .caps .cells) ≤ length b) where
-  -- the capacities and the memory are good
+  -- the capacities, the edition and the memory are good
   good : formatRefusal (length b) (m .caps) ≡ 0
-  good = format-good (length b) (m .caps) (story-wf s .picture .marks) (story-wf s .picture .cells) fits
+  good = format-good (length b) (m .caps) (story-wf s .picture .marks) (story-wf s .picture .cells) (story-wf s .picture .edition) fits
 
   -- the build is accepted
   pub afresh-accepted : r ≡ Accepted
   unfolding buildAnswer placed builtSays given
-  afresh-accepted = built-one r Accepted (builds .says ∙ rw (good, afresh-built m (story-wf s .sound) other order .0))
+  afresh-accepted = built-one r Accepted (builds .says ∙ rw (good, afresh-built m (story-wf s .sound) (story-wf s .two) other order .0))
 
   -- it leaves well-formed memory of the same map
   pub afresh-wf : Wf b′ m
-  afresh-wf = subst (λ (k : Map). Wf b′ k) (afresh-built m (story-wf s .sound) other order .1) (builds .wf good)
+  afresh-wf = subst (λ (k : Map). Wf b′ k) (afresh-built m (story-wf s .sound) (story-wf s .two) other order .1) (builds .wf good)
 
   -- so the same words, all over the room
   pub afresh-words : take (room (m .caps .marks) (m .caps .cells)) b′ ≡ take (room (m .caps .marks) (m .caps .cells)) w

@@ -22,7 +22,7 @@ pub data Story : List ℕ → Map → Type 0 where
       → formatRefusal (length w) caps ≡ 0 → Story w′ (build caps records .map)
   -- edits, accepted and refused
   then : {w w′ : List ℕ} {m : Map} {es : List Edit} → Story w m → Run w es w′ → Story w′ (history m es)
-  -- a format or a build between that is refused with 1 or 2: the map stays
+  -- a format or a build between that is refused with 6, 1 or 2: the map stays
   refusedFormat : {w w′ : List ℕ} {m : Map} {caps : Caps} {why : Refusal} → Story w m → Formatted w caps (Refused why) w′ → Story w′ m
   refusedBuild : {w w′ : List ℕ} {m : Map} {caps : Caps} {records : List ℕ} {r : Built} → Story w m → Builds w caps records r w′
       → (formatRefusal (length w) caps ≡ 0 → ⊥) → Story w′ m

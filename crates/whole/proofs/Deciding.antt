@@ -23,9 +23,9 @@ use Rattle.shapes.proofs.Facts.{facts}
 use Rattle.shapes.proofs.Types.{type-marks}
 use Rattle.numbers.specs.declared.Caps.{Caps}
 use Rattle.map.specs.Cells.{Map, live, holds, dimensionAt, facetsAt, cellsOf}
-use Rattle.map.specs.Siblings.{isHalf, Half, sibling}
+use Rattle.map.specs.Siblings.{isHalf, Half, siblings, sibling}
 use Rattle.map.specs.Stars.{holders, anchors}
-use Rattle.map.specs.Sound.{Sound}
+use Rattle.map.specs.Sound.{Sound, TwoSolids}
 use Rattle.laws.proofs.Halves.{half-live}
 use Rattle.picture.specs.State.{State, next, mapWith}
 use Rattle.picture.specs.Picture.{Pic}
@@ -35,7 +35,8 @@ use Rattle.store.specs.Slots.{InHead, read, codeIn}
 use Rattle.laws.proofs.Facets.{facets-count}
 use Rattle.picture.proofs.Record.{code-read}
 use Rattle.record_checks.specs.Upright.{Upright}
-use Rattle.whole.specs.SecondHalf.{twinOf, loneOf, sibRight, sibsRight, ancRight, ancsRight, countIn, countRight}
+use Rattle.whole.proofs.Readings.{few-two, two-few}
+use Rattle.whole.specs.SecondHalf.{twinOf, loneOf, fewIn, facetRight, facetsRight, ancRight, ancsRight, countIn, countRight}
 
 module _ (caps : Caps) (s : State) where
   -- no two cells the same
@@ -121,29 +122,55 @@ module _ (w : List ℕ) (caps : Caps) (s : State) (p : Pic w caps s) where
   unfolding facetCount mapWith
   facets-read c h = ap (λ (t : ℕ). length (shape t .facets)) (code-read w caps s p c h) ∙ sym (facets-count (mapWith caps s) c)
 
-  -- the siblings
-  pub sibs-settled : Ready caps s → every (caps .cells) (sibsRight w caps s) ≡ true → Settled caps s
-  unfolding sibsRight sibRight halfOf isHalf mapWith
-  sibs-settled r e = record {
-    ready = r;
-    siblings = λ h half.
-        let z : 8 * (h / 8) + h % 8 ≡ h = omega arith in
-        let below : h < 8 * caps .cells = half-live (mapWith caps s) (r .sound) h half .below in
+  -- each facet of a cell that passes: as many share it as may, and its sibling is right
+  module _ (e : every (caps .cells) (facetsRight w caps s) ≡ true) (h : ℕ) (below : h < 8 * caps .cells) (half : isHalf (mapWith caps s) h ≡ true) where
+    facet-at : facetRight caps s (h / 8) (h % 8) ≡ true
+    unfolding facetsRight isHalf
+    facet-at =
         let cell : h / 8 < caps .cells = omega arith in
         let less : h % 8 < facetCount (codeIn w caps (h / 8)) = omega (arith, ltb-true (h % 8) (length (facetsAt (mapWith caps s) (h / 8))) half, facets-read (h / 8) cell) in
-        let one = every-at (sibRight caps s (h / 8)) (facetCount (codeIn w caps (h / 8))) (every-at (sibsRight w caps s) (caps .cells) e (h / 8) cell) (h % 8) less in
-        rw z at (eqb-true (s .sib (8 * (h / 8) + h % 8)) (sibling (mapWith caps s) (8 * (h / 8) + h % 8)) one);
+        every-at (facetRight caps s (h / 8)) (facetCount (codeIn w caps (h / 8))) (every-at (facetsRight w caps s) (caps .cells) e (h / 8) cell) (h % 8) less
+
+    whole-half : halfOf (h / 8) (h % 8) ≡ h
+    unfolding halfOf
+    whole-half = omega arith
+
+    facet-few : fewIn caps (s .at (h / 8) .code) (length (siblings (mapWith caps s) h)) ≡ true
+    unfolding facetRight
+    facet-few = rw whole-half at (and-left (fewIn caps (s .at (h / 8) .code) (length (siblings (mapWith caps s) (halfOf (h / 8) (h % 8))))) _ facet-at)
+
+    facet-sib : s .sib h ≡ sibling (mapWith caps s) h
+    unfolding facetRight
+    facet-sib =
+        eqb-true (s .sib h) (sibling (mapWith caps s) h)
+        (rw whole-half at (and-right (fewIn caps (s .at (h / 8) .code) (length (siblings (mapWith caps s) (halfOf (h / 8) (h % 8))))) _ facet-at))
+
+  -- the siblings, and two solids at most on a face
+  pub sibs-settled : Ready caps s → every (caps .cells) (facetsRight w caps s) ≡ true → Settled caps s
+  unfolding mapWith
+  sibs-settled r e = record { ready = r; siblings = λ h half. facet-sib e h (half-live (mapWith caps s) (r .sound) h half .below) half }
+
+  pub sibs-two : every (caps .cells) (facetsRight w caps s) ≡ true → TwoSolids (mapWith caps s)
+  unfolding mapWith dimensionAt
+  sibs-two e = record {
+    most = λ second h half solid.
+        few-two caps (s .at (h / 8) .code) (length (siblings (mapWith caps s) h)) (facet-few e h (half .below) (half .facet)) second solid;
   }
 
-  pub settled-sibs : Settled caps s → every (caps .cells) (sibsRight w caps s) ≡ true
-  unfolding sibsRight sibRight halfOf isHalf facetCount
-  settled-sibs t =
-      at-every (sibsRight w caps s) (caps .cells)
+  pub settled-sibs : Settled caps s → TwoSolids (mapWith caps s) → every (caps .cells) (facetsRight w caps s) ≡ true
+  unfolding facetsRight facetRight halfOf isHalf facetCount mapWith dimensionAt
+  settled-sibs t two =
+      at-every (facetsRight w caps s) (caps .cells)
       (λ c h.
-      at-every (sibRight caps s c) (facetCount (codeIn w caps c))
+      at-every (facetRight caps s c) (facetCount (codeIn w caps c))
       (λ f l.
       let few : f < mostFacets = omega (arith, facts (codeIn w caps c) .facets) in
-      eq-eqb (s .sib (8 * c + f)) (sibling (mapWith caps s) (8 * c + f)) (t .siblings (8 * c + f) (is-half c f h l few))))
+      let half = is-half c f h l few in
+      let cell : (8 * c + f) / 8 ≡ c = omega arith in
+      and-both _ _
+      (two-few caps (s .at c .code) (length (siblings (mapWith caps s) (8 * c + f)))
+      (λ second solid. two .most second (8 * c + f) (record { below = omega arith; facet = half }) (rw cell solid)))
+      (eq-eqb (s .sib (8 * c + f)) (sibling (mapWith caps s) (8 * c + f)) (t .siblings (8 * c + f) half))))
     where
       is-half : (c f : ℕ) → c < caps .cells → f < facetCount (codeIn w caps c) → f < mostFacets → ltb ((8 * c + f) % 8) (length (facetsAt (mapWith caps s) ((8 * c + f) / 8))) ≡ true
       is-half c f h l few =

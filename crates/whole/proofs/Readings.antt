@@ -3,17 +3,20 @@ use mathlib.Core.Path.{_≡_, refl, sym, ap, _∙_}
 use mathlib.Core.Bool.{Bool, true, false, not, _&&_, _||_}
 use mathlib.Core.List.{List, []}
 use Prim.Native.Nat.{ℕ, zero, suc, _+_, _*_, _/_, _%_, _<_, _≤_}
+use native.Mathlib.Decide.{ℕ-discrete}
 use native.Mathlib.Numerals.{add-one}
 use native.Mathlib.Omega.{arith}
-use borrow.Author.Tests.{eq-eqb, ne-eqb}
-use lib.Dec.{eqb}
+use borrow.Author.Tests.{eq-eqb, ne-eqb, eqb-true, le-leb, leb-true}
+use lib.Dec.{eqb, leb}
 use lib.ListN.{getD, length, length-append}
 use Rattle.lists.specs.Lists.{has, any, sameSet, select, after, listOf}
-use Rattle.lists.proofs.Bools.{clash, or-left, not-of-false}
+use Rattle.lists.proofs.Bools.{clash, or-left, not-of-false, and-no, and-yes, either}
 use Rattle.lists.proofs.Members.{at-has}
+use Rattle.lists.proofs.Fill.{length-listOf}
 use Rattle.lists.proofs.Select.{select-out, select-size}
 use Rattle.lists.proofs.Alike.{any-same}
 use Rattle.numbers.specs.Half.{cut, halfOf}
+use Rattle.numbers.specs.Editions.{secondEdition}
 use Rattle.numbers.proofs.Inverse.{half-uncut}
 use Rattle.shapes.specs.Shapes.{noShape, shapes, shape, facetCount}
 use Rattle.shapes.specs.Table.{table}
@@ -42,7 +45,7 @@ use Rattle.lists.proofs.Mapped.{copied-list}
 use Rattle.record_checks.specs.Upright.{Upright}
 use Rattle.facet.proofs.Read.{marks-is}
 use Rattle.record_checks.proofs.Uprights.{upright-chain, upright-linked}
-use Rattle.whole.specs.SecondHalf.{Sees, Readied, SettledBy, twinIn, twinOf, loneOf, sibRight, ancRight, countIn, countRight}
+use Rattle.whole.specs.SecondHalf.{Sees, Readied, SettledBy, twinIn, twinOf, loneOf, fewIn, facetRight, ancRight, countIn, countRight}
 use Rattle.numbers.specs.Sizes.{mostAround}
 use Rattle.shapes.specs.Sizes.{mostFacets}
 
@@ -107,6 +110,32 @@ module _ (w : List ℕ) (caps : Caps) (c : ℕ) where
           ∙ any-same (twinIn w caps c) (twinOf (mapWith caps s) c) (holders (mapWith caps s) v) (λ j t. twin-is w caps s p (k .0) c j (k .1) (holder-below s v j t))) in
           lone-of s v r same first some
 
+-- so many may share a facet: under edition 1, of what is no solid, or two at most
+module _ (caps : Caps) (t n : ℕ) where
+  pub few-first : (caps .edition ≡ secondEdition → ⊥) → true ≡ fewIn caps t n
+  unfolding fewIn
+  few-first other = rw (ne-eqb (caps .edition) secondEdition other)
+
+  module _ (second : caps .edition ≡ secondEdition) where
+    pub few-flat : (d : ℕ) → d ≡ shape t .dimension → (d ≡ 3 → ⊥) → true ≡ fewIn caps t n
+    unfolding fewIn
+    few-flat d dimension flat = rw (eq-eqb (caps .edition) secondEdition second, ne-eqb (shape t .dimension) 3 (λ e. flat (dimension ∙ e)))
+
+    pub few-solid : (d : ℕ) → d ≡ shape t .dimension → d ≡ 3 → leb n 2 ≡ fewIn caps t n
+    unfolding fewIn
+    few-solid d dimension solid = rw (eq-eqb (caps .edition) secondEdition second, eq-eqb (shape t .dimension) 3 (sym dimension ∙ solid))
+
+  pub few-two : fewIn caps t n ≡ true → caps .edition ≡ secondEdition → shape t .dimension ≡ 3 → n ≤ 2
+  few-two e second solid = leb-true n 2 (few-solid second (shape t .dimension) refl solid ∙ e)
+
+  pub two-few : (caps .edition ≡ secondEdition → shape t .dimension ≡ 3 → n ≤ 2) → fewIn caps t n ≡ true
+  two-few few = go (ℕ-discrete (caps .edition) secondEdition) (ℕ-discrete (shape t .dimension) 3)
+    where
+      go : Dec (caps .edition ≡ secondEdition) → Dec (shape t .dimension ≡ 3) → fewIn caps t n ≡ true
+      go (no other) d = sym (few-first other)
+      go (yes second) (no flat) = sym (few-flat second (shape t .dimension) refl flat)
+      go (yes second) (yes solid) = sym (few-solid second (shape t .dimension) refl solid) ∙ le-leb n 2 (few second solid)
+
 -- the step that holds a stored sibling against the sharers
 module _ (w : List ℕ) (caps : Caps) (rows : List (List (List ℕ))) (c f : ℕ) where
   module _ (s : State) (p : Pic w caps s) (r : Ready caps s) (types : rows ≡ table) (h : c < caps .cells) (hf : f < facetCount (codeIn w caps c)) where
@@ -149,24 +178,43 @@ module _ (w : List ℕ) (caps : Caps) (rows : List (List (List ℕ))) (c f : ℕ
         let facet : (8 * c + f) % 8 ≡ f = omega (arith, small) in
         sib-read w caps s p (8 * c + f) (omega (arith, cell)) (omega (arith, facet, small))
 
+    -- so many may share it, by the record and by the map
+    few-is : (n t : ℕ) (o o′ : List ℕ) → Shared w caps rows (facetIn w caps rows c f) o n o′ → length o ≡ mostAround → t ≡ codeIn w caps c
+        → fewIn caps t n ≡ fewIn caps (s .at c .code) (length (siblings (mapWith caps s) (halfOf c f)))
+    few-is n t o o′ shared size word =
+        rw (word ∙ code-read w caps s p c h, sym (length-listOf n (λ i. getD o′ i 0)) ∙ ap length (shared-is n o o′ shared size))
+
     one : (n half next stored : ℕ) (o o′ : List ℕ) → Shared w caps rows (facetIn w caps rows c f) o n o′ → length o ≡ mostAround
         → half ≡ halfOf (cut c) (f % 8) → next ≡ after half (listOf n (λ i. getD o′ i 0))
-        → stored ≡ read w caps (InCell (half / 8) (Sib (half % 8))) → eqb stored next ≡ sibRight caps s c f
-    unfolding sibRight sibling
+        → stored ≡ read w caps (InCell (half / 8) (Sib (half % 8))) → eqb stored next ≡ eqb (s .sib (halfOf c f)) (sibling (mapWith caps s) (halfOf c f))
+    unfolding sibling
     one n half next stored o o′ shared size uncut found word =
         let half-is : half ≡ halfOf c f = uncut ∙ half-uncut c f (omega (arith, p .cells)) (omega (arith, small)) in
         let next-is : next ≡ after (halfOf c f) (siblings (mapWith caps s) (halfOf c f)) =
         found ∙ (ap (λ (h : ℕ). after h (listOf n (λ i. getD o′ i 0))) half-is ∙ ap (after (halfOf c f)) (shared-is n o o′ shared size)) in
         rw (word ∙ (ap (λ (h : ℕ). read w caps (InCell (h / 8) (Sib (h % 8)))) half-is ∙ stored-is), next-is)
 
-  pub sibling-held : (n half next stored : ℕ) (o o′ : List ℕ) → Shared w caps rows (facetIn w caps rows c f) o n o′ → length o ≡ mostAround
-      → half ≡ halfOf (cut c) (f % 8) → next ≡ after half (listOf n (λ i. getD o′ i 0))
-      → stored ≡ read w caps (InCell (half / 8) (Sib (half % 8)))
-      → Sees w caps (λ s. (Readied caps rows s × (c < caps .cells)) × (f < facetCount (codeIn w caps c))) (λ s. sibRight caps s c f) (eqb stored next)
-  sibling-held n half next stored o o′ shared size uncut found word = record { sees = at }
-    where
-      at : (s : State) → Pic w caps s → (Readied caps rows s × (c < caps .cells)) × (f < facetCount (codeIn w caps c)) → eqb stored next ≡ sibRight caps s c f
-      at s p k = one s p (k .0 .0 .ready) (k .0 .0 .types) (k .0 .1) (k .1) n half next stored o o′ shared size uncut found word
+  module _ (n t : ℕ) (b : Bool) (o o′ : List ℕ) (shared : Shared w caps rows (facetIn w caps rows c f) o n o′) (size : length o ≡ mostAround)
+      (code : t ≡ codeIn w caps c) (may : b ≡ fewIn caps t n) where
+    abbrev Right : Bool → Type 0
+    Right r = Sees w caps (λ s. (Readied caps rows s × (c < caps .cells)) × (f < facetCount (codeIn w caps c))) (λ s. facetRight caps s c f) r
+
+    few-at : (s : State) → Pic w caps s → (Readied caps rows s × (c < caps .cells)) × (f < facetCount (codeIn w caps c))
+        → b ≡ fewIn caps (s .at c .code) (length (siblings (mapWith caps s) (halfOf c f)))
+    few-at s p k = may ∙ few-is s p (k .0 .0 .ready) (k .0 .0 .types) (k .0 .1) (k .1) n t o o′ shared size code
+
+    pub sibling-many : b ≡ false → Right false
+    unfolding facetRight
+    sibling-many e = record { sees = λ s p k. and-no _ _ (sym (few-at s p k) ∙ e) }
+
+    pub sibling-held : b ≡ true → (half next stored : ℕ) → half ≡ halfOf (cut c) (f % 8) → next ≡ after half (listOf n (λ i. getD o′ i 0))
+        → stored ≡ read w caps (InCell (half / 8) (Sib (half % 8))) → Right (eqb stored next)
+    unfolding facetRight
+    sibling-held e half next stored uncut found word = record {
+      sees = λ s p k.
+          and-yes _ _ _ (sym (few-at s p k) ∙ e)
+          (one s p (k .0 .0 .ready) (k .0 .0 .types) (k .0 .1) (k .1) n half next stored o o′ shared size uncut found word);
+    }
 
 -- the step that holds a stored first anchor against the first anchor
 module _ (w : List ℕ) (caps : Caps) (rows : List (List (List ℕ))) (v d : ℕ) (less : d < 3) where

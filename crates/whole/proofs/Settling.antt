@@ -9,13 +9,14 @@ use Rattle.numbers.specs.declared.Caps.{Caps}
 use Rattle.shapes.specs.Sizes.{mostFacets, mostCode}
 use Rattle.map.specs.Cells.{cellsOf}
 use Rattle.map.specs.Siblings.{isHalf, sibling}
+use Rattle.map.specs.Sound.{TwoSolids}
 use Rattle.map.specs.Stars.{anchors}
 use Rattle.picture.specs.State.{State, next, mapWith, stateOf}
 use Rattle.picture.specs.Picture.{Pic, Wf}
 use Rattle.picture.specs.Ready.{Settled}
 use Rattle.picture.proofs.Alike.{retold, pic-retold, state-same}
 
-module _ (w : List ℕ) (caps : Caps) (s : State) (p : Pic w caps s) (settled : Settled caps s)
+module _ (w : List ℕ) (caps : Caps) (s : State) (p : Pic w caps s) (settled : Settled caps s) (two : TwoSolids (mapWith caps s))
     (counts : (t : ℕ) → 1 ≤ t → t ≤ mostCode → s .count t ≡ length (cellsOf (mapWith caps s) t))
     (ancs : (v d : ℕ) → v < caps .marks → 1 ≤ d → d ≤ 3 → s .anc d v ≡ next (anchors (mapWith caps s) d v))
     (none : (c f : ℕ) → c < caps .cells → f < mostFacets → isHalf (mapWith caps s) (8 * c + f) ≡ false → s .sib (8 * c + f) ≡ 0) where
@@ -44,4 +45,4 @@ module _ (w : List ℕ) (caps : Caps) (s : State) (p : Pic w caps s) (settled : 
 
   pub settled-wf : Wf w (mapWith caps s)
   unfolding mapWith
-  settled-wf = record { sound = settled .ready .sound; picture = subst (Pic w caps) fields told }
+  settled-wf = record { sound = settled .ready .sound; two = two; picture = subst (Pic w caps) fields told }

@@ -14,14 +14,16 @@ use Rattle.shapes.specs.Shapes.{shape, facetCount}
 use Rattle.shapes.specs.Table.{table}
 use Rattle.numbers.specs.declared.Caps.{Caps}
 use Rattle.numbers.specs.Sizes.{mostCapacity}
+use Rattle.numbers.specs.Editions.{isEdition}
 use Rattle.store.specs.declared.Opened.the-variants.{Mesh, Nothing}
 use Rattle.shapes.specs.Sizes.{mostFacets, mostCode}
 use Rattle.store.specs.Layout.{headWords, magic, room}
-use Rattle.store.specs.Fields.{Magic, MarkCap, CellCap, Count}
+use Rattle.store.specs.Fields.{Magic, MarkCap, CellCap, Edition, Count}
 use Rattle.store.specs.Slots.{InHead, read, codeIn}
 use Rattle.store.specs.Open.{headIn, capsIn, isMesh, opened}
 use Rattle.map.specs.Cells.{Map, facetsAt, cellsOf}
 use Rattle.map.specs.Siblings.{isHalf}
+use Rattle.map.specs.Sound.{TwoSolids}
 use Rattle.map.specs.Stars.{anchors}
 use Rattle.picture.specs.State.{State, next, mapWith, stateOf}
 use Rattle.picture.specs.Picture.{Pic, Wf}
@@ -37,9 +39,9 @@ use Rattle.record_checks.proofs.Seen.{seen, seen-pic}
 use Rattle.record_checks.proofs.Uprights.{upright-ready, ready-upright, seen-upright}
 use Rattle.record_checks.proofs.Right.{wf-laid}
 use Rattle.whole.specs.Whole.{Whole}
-use Rattle.whole.specs.SecondHalf.{Sees, Readied, SettledBy, loneOf, sibsRight, ancsRight, countRight}
+use Rattle.whole.specs.SecondHalf.{Sees, Readied, SettledBy, loneOf, facetsRight, ancsRight, countRight}
 use Rattle.whole.proofs.Settling.{settled-wf}
-use Rattle.whole.proofs.Deciding.{lone-alone, ready-lone, ancs-right, right-ancs, sibs-settled, settled-sibs, facets-read, counts-right, right-counts}
+use Rattle.whole.proofs.Deciding.{lone-alone, ready-lone, ancs-right, right-ancs, sibs-settled, sibs-two, settled-sibs, facets-read, counts-right, right-counts}
 
 -- a refusal: there is no map
 not-whole : (w : List ℕ) → ((m : Map) → Wf w m → ⊥) → Whole w false
@@ -57,14 +59,17 @@ module _ (w : List ℕ) (caps : Caps) (opens : Mesh caps ≡ opened w) where
       let b = and-right (eqb (headIn w Magic) magic) _ a in
       let c = and-right (leb (headIn w MarkCap) mostCapacity) _ b in
       let d = and-right (leb (headIn w CellCap) mostCapacity) _ c in
+      let i = and-right (isEdition (headIn w Edition)) _ d in
       rw (o .1)
       (record {
         first = eqb-true (headIn w Magic) magic (and-left (eqb (headIn w Magic) magic) _ a);
         marks = refl;
         cells = refl;
+        edition = refl;
         marks-few = leb-true (headIn w MarkCap) mostCapacity (and-left (leb (headIn w MarkCap) mostCapacity) _ b);
         cells-few = leb-true (headIn w CellCap) mostCapacity (and-left (leb (headIn w CellCap) mostCapacity) _ c);
-        fits = leb-true (room (headIn w MarkCap) (headIn w CellCap)) (length w) d;
+        is-edition = and-left (isEdition (headIn w Edition)) _ d;
+        fits = leb-true (room (headIn w MarkCap) (headIn w CellCap)) (length w) i;
       })
 
   -- well-formed memory passes each part
@@ -77,6 +82,9 @@ module _ (w : List ℕ) (caps : Caps) (opens : Mesh caps ≡ opened w) where
 
     settled : Settled caps (stateOf m)
     settled = wf-settled w caps m same-caps wf
+
+    two : TwoSolids (mapWith caps (stateOf m))
+    two = rw (wf-map w caps m same-caps wf) (wf .two)
 
     counted : (t : ℕ) → 1 ≤ t → t ≤ mostCode → read w caps (InHead (Count t)) ≡ length (cellsOf (mapWith caps (stateOf m)) t)
     unfolding stateOf
@@ -98,10 +106,10 @@ module _ (w : List ℕ) (caps : Caps) (opens : Mesh caps ≡ opened w) where
   no-counts e = not-whole w (λ m wf. clash (right-counts w caps (stateOf m) (pic m wf) (counted m wf)) e)
 
   module _ (rows : List (List (List ℕ))) (types : rows ≡ table) where
-    pub no-siblings : (r : Bool) → Sees w caps (Readied caps rows) (λ s. every (caps .cells) (sibsRight w caps s)) r → r ≡ false → Whole w false
+    pub no-siblings : (r : Bool) → Sees w caps (Readied caps rows) (λ s. every (caps .cells) (facetsRight w caps s)) r → r ≡ false → Whole w false
     no-siblings r g e =
         not-whole w (λ m wf.
-        clash (g .sees (stateOf m) (pic m wf) (record { ready = settled m wf .ready; types = types }) ∙ settled-sibs w caps (stateOf m) (pic m wf) (settled m wf)) e)
+        clash (g .sees (stateOf m) (pic m wf) (record { ready = settled m wf .ready; types = types }) ∙ settled-sibs w caps (stateOf m) (pic m wf) (settled m wf) (two m wf)) e)
 
     no-anchors : (r : Bool) → Sees w caps (SettledBy caps rows) (λ s. every (caps .marks) (ancsRight caps s)) r → r ≡ false → (m : Map) → Wf w m → ⊥
     no-anchors r g e m wf =
@@ -111,7 +119,7 @@ module _ (w : List ℕ) (caps : Caps) (opens : Mesh caps ≡ opened w) where
     module _ (laid : laidIn w caps ≡ true) (lone sibs ancs : Bool)
         (see-lone : Sees w caps (Upright caps) (λ s. every (caps .cells) (loneOf (mapWith caps s))) lone) (is-lone : lone ≡ true)
         (counts : every mostCode (countRight w caps) ≡ true)
-        (see-sibs : Sees w caps (Readied caps rows) (λ s. every (caps .cells) (sibsRight w caps s)) sibs) (is-sibs : sibs ≡ true)
+        (see-sibs : Sees w caps (Readied caps rows) (λ s. every (caps .cells) (facetsRight w caps s)) sibs) (is-sibs : sibs ≡ true)
         (see-ancs : Sees w caps (SettledBy caps rows) (λ s. every (caps .marks) (ancsRight caps s)) ancs) where
       told : Pic w caps (seen w caps)
       told = seen-pic w caps headed laid
@@ -122,10 +130,11 @@ module _ (w : List ℕ) (caps : Caps) (opens : Mesh caps ≡ opened w) where
       ready : Ready caps (seen w caps)
       ready = upright-ready caps (seen w caps) upright (lone-alone caps (seen w caps) upright (sym (see-lone .sees (seen w caps) told upright) ∙ is-lone))
 
+      rights : every (caps .cells) (facetsRight w caps (seen w caps)) ≡ true
+      rights = sym (see-sibs .sees (seen w caps) told (record { ready = ready; types = types })) ∙ is-sibs
+
       stilled : Settled caps (seen w caps)
-      stilled =
-          sibs-settled w caps (seen w caps) told ready
-          (sym (see-sibs .sees (seen w caps) told (record { ready = ready; types = types })) ∙ is-sibs)
+      stilled = sibs-settled w caps (seen w caps) told ready rights
 
       empty-facet : (c f : ℕ) → c < caps .cells → f < mostFacets → isHalf (mapWith caps (seen w caps)) (8 * c + f) ≡ false → seen w caps .sib (8 * c + f) ≡ 0
       unfolding seen isHalf
@@ -138,7 +147,7 @@ module _ (w : List ℕ) (caps : Caps) (opens : Mesh caps ≡ opened w) where
       well : ancs ≡ true → Wf w (mapWith caps (seen w caps))
       unfolding seen
       well e =
-          settled-wf w caps (seen w caps) told stilled (counts-right w caps (seen w caps) told counts)
+          settled-wf w caps (seen w caps) told stilled (sibs-two w caps (seen w caps) told rights) (counts-right w caps (seen w caps) told counts)
           (ancs-right caps (seen w caps) (sym (see-ancs .sees (seen w caps) told (record { settled = stilled; types = types })) ∙ e)) empty-facet
 
       pub passed : Whole w ancs

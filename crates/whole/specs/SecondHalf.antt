@@ -1,17 +1,19 @@
--- What the second half of the whole check asks: no two cells the same, and the siblings, first anchors and live counts as stored.
+-- What the second half of the whole check asks: no two cells the same, two solids at most on a face under edition 2, and the siblings, first
+-- anchors and live counts as stored.
 use mathlib.Core.Path.{_≡_}
 use mathlib.Core.Bool.{Bool, not, _&&_, _||_}
 use mathlib.Core.List.{List}
 use Prim.Native.Nat.{ℕ, _+_, _<_}
-use lib.Dec.{eqb}
+use lib.Dec.{eqb, leb}
 use lib.ListN.{getD, length}
 use Rattle.lists.specs.Lists.{any, sameSet, select, every}
 use Rattle.numbers.specs.Half.{halfOf}
-use Rattle.shapes.specs.Shapes.{facetCount}
+use Rattle.numbers.specs.Editions.{secondEdition}
+use Rattle.shapes.specs.Shapes.{shape, facetCount}
 use Rattle.shapes.specs.Table.{table}
 use Rattle.numbers.specs.declared.Caps.{Caps}
 use Rattle.map.specs.Cells.{Map}
-use Rattle.map.specs.Siblings.{sibling}
+use Rattle.map.specs.Siblings.{siblings, sibling}
 use Rattle.map.specs.Stars.{holders, anchors}
 use Rattle.picture.specs.State.{State, next, mapWith}
 use Rattle.picture.specs.Picture.{Pic}
@@ -45,13 +47,19 @@ twinOf m c k = not (eqb k c) && (eqb (m .at k .code) (m .at c .code) && sameSet 
 unfoldable pub loneOf : Map → ℕ → Bool
 loneOf m c = eqb (m .at c .code) 0 || not (any (twinOf m c) (holders m (getD (m .at c .marks) 0 0)))
 
--- the stored sibling of a half-facet is the sibling
-unfoldable pub sibRight : Caps → State → ℕ → ℕ → Bool
-sibRight caps s c f = eqb (s .sib (halfOf c f)) (sibling (mapWith caps s) (halfOf c f))
+-- so many may share a facet of a type: "a face may lie between two solids at most", under edition 2
+unfoldable pub fewIn : Caps → ℕ → ℕ → Bool
+fewIn caps t n = not (eqb (caps .edition) secondEdition) || (not (eqb (shape t .dimension) 3) || leb n 2)
+
+-- as many as share a facet may, and its stored sibling is the sibling
+unfoldable pub facetRight : Caps → State → ℕ → ℕ → Bool
+facetRight caps s c f =
+    fewIn caps (s .at c .code) (length (siblings (mapWith caps s) (halfOf c f)))
+    && eqb (s .sib (halfOf c f)) (sibling (mapWith caps s) (halfOf c f))
 
 -- so for each facet of a cell, as its record gives them
-unfoldable pub sibsRight : List ℕ → Caps → State → ℕ → Bool
-sibsRight w caps s c = every (facetCount (codeIn w caps c)) (sibRight caps s c)
+unfoldable pub facetsRight : List ℕ → Caps → State → ℕ → Bool
+facetsRight w caps s c = every (facetCount (codeIn w caps c)) (facetRight caps s c)
 
 -- the stored first anchor in dimension d + 1 is the first anchor
 unfoldable pub ancRight : Caps → State → ℕ → ℕ → Bool

@@ -13,7 +13,7 @@ ghost use Rattle.shapes.specs.Sizes.{mostCode};
 ghost use Rattle.store.specs.Slots.{codeIn};
 ghost use Rattle.record_checks.specs.Upright.{Upright};
 ghost use Rattle.whole.specs.Whole.{Whole};
-ghost use Rattle.whole.specs.SecondHalf.{Sees, Readied, SettledBy, twinIn, loneOf, sibRight, sibsRight, ancRight, ancsRight, countIn, countRight};
+ghost use Rattle.whole.specs.SecondHalf.{Sees, Readied, SettledBy, twinIn, loneOf, fewIn, facetRight, facetsRight, ancRight, ancsRight, countIn, countRight};
 use chain::gather;
 use facet::marks_at;
 use group::first_anchor_of;
@@ -23,10 +23,12 @@ use numbers::Cell;
 use numbers::Half;
 use numbers::MOST_AROUND;
 use numbers::Mark;
+use numbers::SECOND_EDITION;
 use numbers::half_of;
 use record_checks::laid;
 use shapes::FacetTable;
 use shapes::MOST_CODE;
+use shapes::dimension;
 use shapes::facet_count;
 use shapes::facet_table;
 use sibling::facet_sharers;
@@ -111,19 +113,35 @@ fn next_in(list: &[u32], n: u32, h: Half) -> u32
     word(list, 0)
 }
 
-// Whether the stored sibling of a half-facet is the sibling.
+// Whether so many may share a facet of the type: two solids at most, under edition 2.
+fn few(caps: Caps, t: u32, n: u32) -> bool
+    ensures { λ r. ⌜ r ≡ fewIn caps t n ⌝ }
+{
+    if caps.edition != SECOND_EDITION {
+        return true;
+    }
+    if dimension(t) != 3 {
+        return true;
+    }
+    n <= 2
+}
+
+// Whether so many may share a facet, and the stored sibling of its half-facet is the sibling.
 fn sibling_ok(w: &[u32], caps: Caps, rows: &FacetTable, c: Cell, f: u32) -> bool
-    ensures { λ r. ⌜ Sees (now (w .entry)) caps (λ s. (Readied caps (now (rows .entry)) s × (c .0 < caps .cells)) × (f < facetCount (codeIn (now (w .entry)) caps (c .0)))) (λ s. sibRight caps s (c .0) f) r ⌝ }
+    ensures { λ r. ⌜ Sees (now (w .entry)) caps (λ s. (Readied caps (now (rows .entry)) s × (c .0 < caps .cells)) × (f < facetCount (codeIn (now (w .entry)) caps (c .0)))) (λ s. facetRight caps s (c .0) f) r ⌝ }
 {
     let mut halves = [0u32; MOST_AROUND as usize];
     let n = facet_sharers(w, caps, rows, c, f, &mut halves);
+    if !few(caps, code_of(w, caps, c), n) {
+        return false;
+    }
     let half = half_of(c, f);
     sibling_of(w, caps, half).0 == next_in(&halves, n, half)
 }
 
-// Whether the stored siblings of a cell are its siblings.
+// Whether that is so for each facet of a cell.
 fn siblings_ok(w: &[u32], caps: Caps, rows: &FacetTable, c: Cell) -> bool
-    ensures { λ r. ⌜ Sees (now (w .entry)) caps (λ s. Readied caps (now (rows .entry)) s × (c .0 < caps .cells)) (λ s. sibsRight (now (w .entry)) caps s (c .0)) r ⌝ }
+    ensures { λ r. ⌜ Sees (now (w .entry)) caps (λ s. Readied caps (now (rows .entry)) s × (c .0 < caps .cells)) (λ s. facetsRight (now (w .entry)) caps s (c .0)) r ⌝ }
 {
     let n = facet_count(code_of(w, caps, c));
     let mut f: u32 = 0;
@@ -136,9 +154,9 @@ fn siblings_ok(w: &[u32], caps: Caps, rows: &FacetTable, c: Cell) -> bool
     true
 }
 
-// Whether all stored siblings are the siblings.
+// Whether that is so for all cells.
 fn all_siblings(w: &[u32], caps: Caps, rows: &FacetTable) -> bool
-    ensures { λ r. ⌜ Sees (now (w .entry)) caps (Readied caps (now (rows .entry))) (λ s. every (caps .cells) (sibsRight (now (w .entry)) caps s)) r ⌝ }
+    ensures { λ r. ⌜ Sees (now (w .entry)) caps (Readied caps (now (rows .entry))) (λ s. every (caps .cells) (facetsRight (now (w .entry)) caps s)) r ⌝ }
 {
     let mut c: u32 = 0;
     while c < caps.cells {

@@ -9,6 +9,7 @@ use second::Memory;
 pub fn answers(memory: &Memory) -> Vec<String> {
     let mesh = memory.mesh.as_ref().expect("a mesh to ask");
     let mut lines = vec![format!("whole {}", memory.whole())];
+    lines.push(format!("edition {:?}", memory.edition()));
     for cell in 0..=mesh.cells {
         about_cell(memory, cell, &mut lines);
     }

@@ -23,9 +23,23 @@ pub fn formatted(marks: u32, cells: u32) -> Memory {
     memory
 }
 
+/// The same under an edition.
+pub fn formatted_edition(marks: u32, cells: u32, edition: u32) -> Memory {
+    let mut memory = Memory::lent(room(marks, cells));
+    memory
+        .format_edition(marks, cells, edition)
+        .expect("the room is exact and the edition is one");
+    memory
+}
+
 /// A mesh with these cells inserted in this order.
 pub fn mesh(marks: u32, cells: u32, records: &[Record]) -> Memory {
-    let mut memory = formatted(marks, cells);
+    mesh_edition(marks, cells, 1, records)
+}
+
+/// The same under an edition.
+pub fn mesh_edition(marks: u32, cells: u32, edition: u32, records: &[Record]) -> Memory {
+    let mut memory = formatted_edition(marks, cells, edition);
     for &(cell, code, marks) in records {
         memory.insert(cell, code, marks).expect("a good record");
     }
@@ -53,6 +67,27 @@ pub fn full_mark_records() -> Vec<(u32, u32, Vec<u32>)> {
 pub fn with_full_mark() -> Memory {
     let mut memory = formatted(200, 200);
     for (cell, code, marks) in full_mark_records() {
+        memory.insert(cell, code, &marks).expect("up to 128 fit");
+    }
+    memory
+}
+
+/// The same with faces of two tetrahedra each: of the full mark and the marks
+/// 165 and 166 in cells 1 and 2, which are no bars here; of the marks 160, 161
+/// and 162 in cells 131 and 132.
+pub fn full_face_records() -> Vec<(u32, u32, Vec<u32>)> {
+    let mut records = full_mark_records();
+    records[1] = (1, TETRA, vec![10, 165, 166, 167]);
+    records[2] = (2, TETRA, vec![10, 166, 165, 168]);
+    records.push((131, TETRA, vec![160, 161, 162, 163]));
+    records.push((132, TETRA, vec![160, 161, 162, 164]));
+    records
+}
+
+/// Under edition 2.
+pub fn with_full_face() -> Memory {
+    let mut memory = formatted_edition(200, 200, 2);
+    for (cell, code, marks) in full_face_records() {
         memory.insert(cell, code, &marks).expect("up to 128 fit");
     }
     memory

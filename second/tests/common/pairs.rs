@@ -12,6 +12,10 @@ use std::collections::BTreeSet;
 /// 3; the other 7, for missing marks, comes after 6.
 pub const MISSING: u8 = 107;
 
+/// 6 for another edition, which a format or build is checked for before 1; the
+/// other 6, for an unknown type, comes after 4.
+pub const EDITION: u8 = 106;
+
 pub struct Pairs {
     order: &'static [u8],
     answered: BTreeSet<u8>,

@@ -1,10 +1,11 @@
 //! Maps by chance, the same in every run.
 
-use super::maps::formatted;
+use super::maps::formatted_edition;
 use second::shapes::TYPES;
 use second::{Memory, Refusal};
 
 /// Marsaglia's xorshift with 64 bits.
+#[derive(Clone)]
 pub struct Random(u64);
 
 impl Random {
@@ -44,8 +45,8 @@ pub fn insert_by_chance(random: &mut Random, memory: &mut Memory) -> Result<(), 
 }
 
 /// A map of few marks, so that many cells share them.
-pub fn map_by_chance(random: &mut Random, marks: u32, cells: u32) -> Memory {
-    let mut memory = formatted(marks, cells);
+pub fn map_by_chance(random: &mut Random, marks: u32, cells: u32, edition: u32) -> Memory {
+    let mut memory = formatted_edition(marks, cells, edition);
     for _ in 0..2 * cells {
         let _ = insert_by_chance(random, &mut memory);
     }

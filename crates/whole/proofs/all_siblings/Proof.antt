@@ -1,7 +1,7 @@
 -- `whole::all_siblings` meets its contract.
 use borrow.Author.Needs.{needs}
 use Rattle.whole.proofs.Loops.{SeesTo, sees-start, sees-more, sees-stop, sees-end}
-use Rattle.whole.specs.SecondHalf.{Sees, Readied, SettledBy, twinIn, loneOf, sibRight, sibsRight, ancRight, ancsRight, countIn, countRight}
+use Rattle.whole.specs.SecondHalf.{Sees, Readied, SettledBy, twinIn, loneOf, facetRight, facetsRight, ancRight, ancsRight, countIn, countRight}
 use borrow.Author.Tests.{not-true, not-false}
 use Prim.Native.Nat.{_<_, _-_, _≤_}
 use native.Mathlib.Omega.{arith}
@@ -11,7 +11,7 @@ use Rattle.whole.proofs.all_siblings.Statement.{statement}
 use Rattle.whole.proofs.all_siblings.Tie as tie
 
 abbrev Inv-loop : tie.InvT-loop
-Inv-loop w caps rows c₀ c = (c ≤ caps .cells) × SeesTo w caps (Readied caps rows) (λ s. sibsRight w caps s) c
+Inv-loop w caps rows c₀ c = (c ≤ caps .cells) × SeesTo w caps (Readied caps rows) (λ s. facetsRight w caps s) c
 
 abbrev μ-loop : tie.MeasureT-loop
 μ-loop w caps rows c₀ c = caps .cells - c

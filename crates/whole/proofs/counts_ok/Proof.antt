@@ -4,7 +4,7 @@ use Rattle.lists.proofs.Every.{every-start, every-more, every-stop, every-end}
 use Rattle.lists.specs.Lists.{every}
 use Rattle.shapes.specs.Sizes.{mostCode}
 use Rattle.whole.proofs.Readings.{count-yes, count-no}
-use Rattle.whole.specs.SecondHalf.{Sees, Readied, SettledBy, twinIn, loneOf, sibRight, sibsRight, ancRight, ancsRight, countIn, countRight}
+use Rattle.whole.specs.SecondHalf.{Sees, Readied, SettledBy, twinIn, loneOf, facetRight, facetsRight, ancRight, ancsRight, countIn, countRight}
 use Prim.Native.Nat.{_<_, _-_, _≤_}
 use native.Mathlib.Omega.{arith}
 use mathlib.Core.Bool.{Bool, true, false, not}
