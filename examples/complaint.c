@@ -42,6 +42,13 @@ static void tell(uint32_t mark)
     for (uint32_t i = 0; i < count; i++) {
         printf("a sheet begins at cell %" PRIu32 ", facet %" PRIu32 "\n", list[i] / 8, list[i] % 8);
     }
+    /* round the edge of marks 1 and 2, and whether each two agree in direction */
+    static const char *const runs[] = {"Lone", "Same", "Opposite", "Neither"};
+    uint32_t ways[LONGEST_LIST];
+    must(mk_cycle(words, MK_ROOM(MARKS, CELLS), 0, 1, list, LONGEST_LIST, ways, LONGEST_LIST, &count));
+    for (uint32_t i = 0; i < count; i++) {
+        printf("cell %" PRIu32 ", facet %" PRIu32 ": the next runs %s\n", list[i] / 8, list[i] % 8, runs[ways[i]]);
+    }
 }
 
 /* under the second edition a face lies between two solids at most */

@@ -11,6 +11,7 @@ import sys
 
 BAR, TRIANGLE, QUAD, TETRAHEDRON, PYRAMID, WEDGE, BRICK = 1, 2, 3, 4, 5, 6, 7
 FIRST_EDITION, SECOND_EDITION = 1, 2
+WAYS = ("Lone", "Same", "Opposite", "Neither")
 LONGEST_LIST = 128
 
 
@@ -55,6 +56,20 @@ class Map:
     def anchors(self, dimension, mark):
         return [(half // 8, half % 8) for half in self._list("mk_anchors", dimension, mark)]
 
+    def sibling(self, cell, facet):
+        half, way = ctypes.c_uint32(), ctypes.c_uint32()
+        given = [ctypes.c_uint32(cell), ctypes.c_uint32(facet)]
+        self._call("mk_sibling", *given, ctypes.byref(half), ctypes.byref(way))
+        return (half.value // 8, half.value % 8), WAYS[way.value]
+
+    def cycle(self, cell, facet):
+        out, ways = [(ctypes.c_uint32 * LONGEST_LIST)() for _ in range(2)]
+        count, room = ctypes.c_uint32(), ctypes.c_size_t(LONGEST_LIST)
+        given = [ctypes.c_uint32(cell), ctypes.c_uint32(facet)]
+        self._call("mk_cycle", *given, out, room, ways, room, ctypes.byref(count))
+        halves = [(half // 8, half % 8) for half in out[: count.value]]
+        return list(zip(halves, (WAYS[way] for way in ways)))
+
     def _list(self, name, *numbers):
         out = (ctypes.c_uint32 * LONGEST_LIST)()
         count = ctypes.c_uint32()
@@ -75,6 +90,10 @@ def tell(map_, mark):
         print(f"mark {mark}, dimension {dimension}: cells {map_.star(dimension, mark)}")
     for cell, facet in map_.anchors(2, mark):
         print(f"a sheet begins at cell {cell}, facet {facet}")
+    # round the edge of marks 1 and 2, and whether each two agree in direction
+    for (cell, facet), way in map_.cycle(0, 1):
+        assert map_.sibling(cell, facet)[1] == way
+        print(f"cell {cell}, facet {facet}: the next runs {way}")
 
 
 def main():

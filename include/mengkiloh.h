@@ -68,6 +68,18 @@ enum mk_code {
     MK_HEXA_8 = 7   /* 3, 8, 6: (0,3,2,1) (0,1,5,4) (1,2,6,5) (2,3,7,6) (0,4,7,3) (4,5,6,7) */
 };
 
+/*
+ * Which way a half-facet's sibling runs. Bar ends: same if their places in their bars are equal, else
+ * opposite. Edges: same if their lists of marks are equal, opposite if reversed. Faces: same if one list
+ * is a rotation of the other, opposite if it is a rotation of the other reversed, else neither.
+ */
+enum mk_way {
+    MK_LONE = 0, /* no other half-facet has its set */
+    MK_SAME = 1,
+    MK_OPPOSITE = 2,
+    MK_NEITHER = 3
+};
+
 /* The words that a mesh of these capacities takes, each capacity 0 to 65,535. */
 #define MK_ROOM(marks, cells) ((size_t)16 + (size_t)8 * (size_t)(marks) + (size_t)32 * (size_t)(cells))
 
@@ -133,9 +145,10 @@ uint8_t mk_marks(const uint32_t *mesh, size_t words, uint32_t cell, uint32_t *at
 
 /*
  * Sibling: the next half-facet with the same set of marks, and after the last the first; a border is
- * its own. Refused with 14, 3, 5, 13.
+ * its own; and which way it runs (enum mk_way). Refused with 14, 3, 5, 13.
  */
-uint8_t mk_sibling(const uint32_t *mesh, size_t words, uint32_t cell, uint32_t facet, uint32_t *half);
+uint8_t mk_sibling(const uint32_t *mesh, size_t words, uint32_t cell, uint32_t facet, uint32_t *half,
+                   uint32_t *way);
 
 /*
  * Lists. The list is written to the first places of out, and its length to count; the other places of
@@ -145,10 +158,12 @@ uint8_t mk_sibling(const uint32_t *mesh, size_t words, uint32_t cell, uint32_t f
  */
 
 /*
- * Cycle: all half-facets with this one's set of marks, this one first. Refused with 14, 3, 5, 13, 12.
+ * Cycle: all half-facets with this one's set of marks, this one first, and in the same places of ways
+ * which way the sibling of each, the next one, runs (enum mk_way). Refused with 14, 3, 5, 13, 12; 12 where
+ * out or ways has less room.
  */
 uint8_t mk_cycle(const uint32_t *mesh, size_t words, uint32_t cell, uint32_t facet, uint32_t *out, size_t room,
-                 uint32_t *count);
+                 uint32_t *ways, size_t ways_room, uint32_t *count);
 
 /*
  * Border: 1 if the half-facet is alone in its set, else 0. Refused with 14, 3, 5, 13.

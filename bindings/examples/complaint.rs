@@ -53,5 +53,10 @@ fn tell(map: &Mesh<Vec<u32>>, mark: Mark) -> Result<(), Refusal> {
             anchor.facet()
         );
     }
+    // round the edge of marks 1 and 2, and whether each two agree in direction
+    for (half, way) in map.cycle(Cell(0), 1)? {
+        let (cell, facet) = (half.cell(), half.facet());
+        println!("cell {cell}, facet {facet}: the next runs {way:?}");
+    }
     Ok(())
 }

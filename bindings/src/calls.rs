@@ -41,7 +41,14 @@ extern "C" {
     pub fn mk_type(mesh: *const u32, words: usize, cell: u32, code: *mut u32) -> u8;
     pub fn mk_marks(mesh: *const u32, words: usize, cell: u32, at: *mut u32, count: *mut u32)
         -> u8;
-    pub fn mk_sibling(mesh: *const u32, words: usize, cell: u32, facet: u32, half: *mut u32) -> u8;
+    pub fn mk_sibling(
+        mesh: *const u32,
+        words: usize,
+        cell: u32,
+        facet: u32,
+        half: *mut u32,
+        way: *mut u32,
+    ) -> u8;
     pub fn mk_cycle(
         mesh: *const u32,
         words: usize,
@@ -49,6 +56,8 @@ extern "C" {
         facet: u32,
         out: *mut u32,
         room: usize,
+        ways: *mut u32,
+        ways_room: usize,
         count: *mut u32,
     ) -> u8;
     pub fn mk_border(mesh: *const u32, words: usize, cell: u32, facet: u32, yes: *mut u32) -> u8;

@@ -48,7 +48,7 @@ mod refusal;
 use std::fmt;
 
 use numbers::Register;
-pub use numbers::{Cell, Half, Mark};
+pub use numbers::{Cell, Half, Mark, Way};
 pub use records::Records;
 pub use refusal::Refusal;
 
@@ -146,15 +146,16 @@ impl TryFrom<u32> for Edition {
 /// A walker over one sibling cycle: its place.
 ///
 /// ```
-/// # use mengkiloh::{Cell, Half, Mark, Mesh, Type, Walker};
+/// # use mengkiloh::{Cell, Half, Mark, Mesh, Type, Walker, Way};
 /// # fn main() -> Result<(), mengkiloh::Refusal> {
 /// let mut map = Mesh::with_room(6, 4)?;
 /// map.insert(Cell(0), Type::Triangle, &[0, 1, 2].map(Mark))?;
 /// map.insert(Cell(1), Type::Triangle, &[2, 1, 3].map(Mark))?;
 /// let start = Walker(Half::of(Cell(0), 1));
-/// let next = start.step(&map)?;
+/// let (next, way) = start.step(&map)?;
 /// assert_eq!(next, Walker(Half::of(Cell(1), 0)));
-/// assert_eq!(next.step(&map)?, start);
+/// assert_eq!(way, Way::Opposite);
+/// assert_eq!(next.step(&map)?, (start, Way::Opposite));
 /// # Ok(())
 /// # }
 /// ```
@@ -162,11 +163,12 @@ impl TryFrom<u32> for Edition {
 pub struct Walker(pub Half);
 
 impl Walker {
-    /// The next place of the cycle as it is now, or the refusal for the
-    /// walker's half-facet.
-    pub fn step<W: AsRef<[u32]>>(self, mesh: &Mesh<W>) -> Result<Walker, Refusal> {
+    /// The next place of the cycle as it is now, and which way it runs; or the
+    /// refusal for the walker's half-facet.
+    pub fn step<W: AsRef<[u32]>>(self, mesh: &Mesh<W>) -> Result<(Walker, Way), Refusal> {
         let Walker(half) = self;
-        mesh.sibling(half.cell(), half.facet()).map(Walker)
+        let (half, way) = mesh.sibling(half.cell(), half.facet())?;
+        Ok((Walker(half), way))
     }
 }
 
@@ -366,12 +368,13 @@ impl<W: AsRef<[u32]>> Mesh<W> {
         Ok(numbers::numbers(&words[at as usize..][..count as usize]))
     }
 
-    /// The next half-facet with the same set of marks.
-    pub fn sibling(&self, cell: Cell, facet: u32) -> Result<Half, Refusal> {
-        one_number(self.words(), |words, n, half| unsafe {
-            calls::mk_sibling(words, n, cell.0, facet, half)
-        })
-        .map(Half)
+    /// The next half-facet with the same set of marks, and which way it runs.
+    pub fn sibling(&self, cell: Cell, facet: u32) -> Result<(Half, Way), Refusal> {
+        let mut way = 0;
+        let half = one_number(self.words(), |words, n, half| unsafe {
+            calls::mk_sibling(words, n, cell.0, facet, half, &mut way)
+        })?;
+        Ok((Half(half), Way::of_word(way)))
     }
 
     /// Whether a half-facet is alone in its set.
@@ -449,15 +452,29 @@ impl<W: AsRef<[u32]>> Mesh<W> {
         })
     }
 
-    /// The whole cycle of a half-facet, itself first.
-    pub fn cycle(&self, cell: Cell, facet: u32) -> Result<Vec<Half>, Refusal> {
-        listed(MOST_AROUND, |out| self.cycle_into(cell, facet, out))
+    /// The whole cycle of a half-facet, itself first, each with the way in which
+    /// its own sibling, the next one, runs.
+    pub fn cycle(&self, cell: Cell, facet: u32) -> Result<Vec<(Half, Way)>, Refusal> {
+        let mut ways = [0; MOST_AROUND];
+        let halves = listed(MOST_AROUND, |out| {
+            self.cycle_into(cell, facet, out, &mut ways)
+        })?;
+        let ways = ways.into_iter().map(Way::of_word);
+        Ok(halves.into_iter().zip(ways).collect())
     }
 
-    /// The cycle in the first places of `out`; how many they are.
-    pub fn cycle_into(&self, cell: Cell, facet: u32, out: &mut [Half]) -> Result<usize, Refusal> {
+    /// The cycle in the first places of `out` and the words of its ways in those
+    /// of `ways`; how many they are.
+    pub fn cycle_into(
+        &self,
+        cell: Cell,
+        facet: u32,
+        out: &mut [Half],
+        ways: &mut [u32],
+    ) -> Result<usize, Refusal> {
+        let (at, ways_room) = (ways.as_mut_ptr(), ways.len());
         one_list(self.words(), out, |words, n, out, room, count| unsafe {
-            calls::mk_cycle(words, n, cell.0, facet, out, room, count)
+            calls::mk_cycle(words, n, cell.0, facet, out, room, at, ways_room, count)
         })
     }
 

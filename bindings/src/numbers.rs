@@ -1,4 +1,4 @@
-//! The registers of numbers, each a type of its own.
+//! The registers of numbers, each a type of its own, and the ways of a sibling.
 //!
 //! A plain number becomes one of them by `into`; the way back is `.0` alone, so
 //! that none of them is taken for a type's code, which may be a plain number.
@@ -65,6 +65,63 @@ impl Half {
 
     pub const fn facet(self) -> u32 {
         self.0 % 8
+    }
+}
+
+/// Which way a half-facet's sibling runs.
+///
+/// Bar ends are the same if their places in their bars are equal, and opposite
+/// else. An edge is the same if its lists of marks are equal, opposite if one is
+/// the other reversed. A face is the same if one list is a rotation of the
+/// other, opposite if it is a rotation of the other reversed, and neither else.
+///
+/// ```
+/// # use mengkiloh::{Cell, Half, Mark, Mesh, Type, Way};
+/// # fn main() -> Result<(), mengkiloh::Refusal> {
+/// let mut map = Mesh::with_room(6, 4)?;
+/// map.insert(Cell(0), Type::Triangle, &[0, 1, 2].map(Mark))?;
+/// map.insert(Cell(1), Type::Triangle, &[2, 1, 3].map(Mark))?;
+/// let (there, way) = map.sibling(Cell(0), 1)?;
+/// assert_eq!(there, Half::of(Cell(1), 0));
+/// assert_eq!(way, Way::Opposite);
+/// assert_eq!(map.sibling(Cell(0), 0)?.1, Way::Lone);
+/// # Ok(())
+/// # }
+/// ```
+#[derive(Clone, Copy, Debug, PartialEq, Eq, PartialOrd, Ord, Hash)]
+pub enum Way {
+    /// No other half-facet has its set of marks.
+    Lone = 0,
+    Same = 1,
+    Opposite = 2,
+    Neither = 3,
+}
+
+impl Way {
+    /// The way of a word that a call gave: 0 to 3.
+    pub(crate) fn of_word(word: u32) -> Way {
+        Way::try_from(word).unwrap_or(Way::Neither)
+    }
+}
+
+impl From<Way> for u32 {
+    fn from(way: Way) -> u32 {
+        way as u32
+    }
+}
+
+impl TryFrom<u32> for Way {
+    type Error = u32;
+
+    /// The way of a word; the word itself where there is none.
+    fn try_from(word: u32) -> Result<Way, u32> {
+        match word {
+            0 => Ok(Way::Lone),
+            1 => Ok(Way::Same),
+            2 => Ok(Way::Opposite),
+            3 => Ok(Way::Neither),
+            _ => Err(word),
+        }
     }
 }
 

@@ -78,6 +78,30 @@ fn the_other_edition_holds_of_the_same_cells_or_not() {
     assert!(yes > 100 && no > 20);
 }
 
+/// The way in a stored sibling changed and no other bit: not well-formed.
+#[test]
+fn another_way_is_not_whole() {
+    let mut chance = Chance::from_seed(6);
+    let mut changed = 0;
+    for _ in 0..500 {
+        let mut words = good_memory(&mut chance);
+        let first = 16 + 8 * MARKS as usize;
+        for cell in 0..CELLS as usize {
+            let record = first + 16 * cell;
+            let facets = type_with_code(words[record]).map_or(0, |row| row.facets.len());
+            for word in record + 5..record + 5 + facets {
+                let right = words[word];
+                words[word] ^= 1 + chance.below(3);
+                assert!(!Mesh::over(&words[..]).whole());
+                words[word] = right;
+                changed += 1;
+            }
+        }
+        assert!(Mesh::over(&words[..]).whole());
+    }
+    assert!(changed > 1_000, "{changed} ways");
+}
+
 /// A small map after some edits, under either edition, with words behind its
 /// room.
 fn good_memory(chance: &mut Chance) -> Vec<u32> {
@@ -146,12 +170,13 @@ fn damage(chance: &mut Chance, words: &mut Vec<u32>) -> bool {
     *words != before
 }
 
-/// One that a type, a mark or a count might be, or a link or a half-facet: 8 ×
-/// cell + corner + 1, 8 × cell + facet (docs/LAYOUT.md).
+/// One that a type, a mark or a count might be, a link or a sibling and its way:
+/// 8 × cell + corner + 1, 4 × (8 × cell + facet) + way (docs/LAYOUT.md).
 fn small_number(chance: &mut Chance) -> u32 {
-    match chance.below(2) {
+    match chance.below(3) {
         0 => chance.below(CELLS + 2),
-        _ => chance.below(8 * CELLS + 2),
+        1 => chance.below(8 * CELLS + 2),
+        _ => chance.below(4 * 8 * CELLS + 4),
     }
 }
 
@@ -226,19 +251,42 @@ fn lists_leave_the_rest(chance: &mut Chance, words: &[u32]) {
     let mark = Mark(chance.below(MARKS));
     let dimension = 1 + chance.below(3);
     match chance.below(5) {
-        0 => leaves_the_rest(room, |out| mesh.star_into(dimension, mark, out)),
-        1 => leaves_the_rest(room, |out| mesh.anchors_into(dimension, mark, out)),
-        2 => leaves_the_rest(room, |out| mesh.cycle_into(cell, chance.below(6), out)),
-        3 => leaves_the_rest(room, |out| mesh.neighbours_into(cell, out)),
-        _ => leaves_the_rest(room, |out| mesh.cells_into(1 + chance.below(7), out)),
+        0 => {
+            leaves_the_rest(room, |out| mesh.star_into(dimension, mark, out));
+        }
+        1 => {
+            leaves_the_rest(room, |out| mesh.anchors_into(dimension, mark, out));
+        }
+        2 => {
+            let mut ways = [SENTINEL; 40];
+            let ways_room = chance.below(33) as usize;
+            let facet = chance.below(6);
+            let given = leaves_the_rest(room, |out| {
+                mesh.cycle_into(cell, facet, out, &mut ways[..ways_room])
+            });
+            assert!(given <= ways_room);
+            assert!(ways[given..].iter().all(|&word| word == SENTINEL));
+            assert!(ways[..given].iter().all(|&word| word < 4));
+        }
+        3 => {
+            leaves_the_rest(room, |out| mesh.neighbours_into(cell, out));
+        }
+        _ => {
+            leaves_the_rest(room, |out| mesh.cells_into(1 + chance.below(7), out));
+        }
     }
 }
 
-fn leaves_the_rest<T: Number>(room: usize, fill: impl FnOnce(&mut [T]) -> Result<usize, Refusal>) {
+/// How many places were given.
+fn leaves_the_rest<T: Number>(
+    room: usize,
+    fill: impl FnOnce(&mut [T]) -> Result<usize, Refusal>,
+) -> usize {
     let mut out = [T::from(SENTINEL); 40];
     let given = fill(&mut out[..room]).unwrap_or(0);
     assert!(given <= room);
     assert!(plain(&out[given..]).iter().all(|&word| word == SENTINEL));
+    given
 }
 
 fn draw(chance: &mut Chance) -> Question {

@@ -3,7 +3,7 @@
 mod common;
 
 use common::{plain, Number, SENTINEL};
-use mengkiloh::{room, BuildRefused, Cell, Edition, Half, Mark, Mesh, Records, Refusal, Type};
+use mengkiloh::{room, BuildRefused, Cell, Edition, Half, Mark, Mesh, Records, Refusal, Type, Way};
 
 #[test]
 fn capacities_go_to_65535() {
@@ -110,9 +110,23 @@ fn a_list_fits_exactly_and_not_one_place_short() {
     }
     let all: Vec<Cell> = (0..9).map(Cell).collect();
     let round: Vec<Half> = (0..9).map(|turn| Half((3 + turn) % 9 * 8)).collect();
+    let mut ways = [SENTINEL; 12];
     fits(&all, |out| map.star_into(2, Mark(1), out));
     fits(&[Half(2)], |out| map.anchors_into(2, Mark(0), out));
-    fits(&round, |out| map.cycle_into(Cell(3), 0, out));
+    for (room, ways_room, due) in [
+        (9, 8, Err(Refusal::OutputShort)),
+        (8, 9, Err(Refusal::OutputShort)),
+        (9, 9, Ok(9)),
+    ] {
+        let mut out = [Half(SENTINEL); 12];
+        let answer = map.cycle_into(Cell(3), 0, &mut out[..room], &mut ways[..ways_room]);
+        assert_eq!(answer, due);
+        let given = answer.unwrap_or(0);
+        assert_eq!(out[..given], round[..given]);
+        assert!(ways[..given].iter().all(|&way| way == Way::Same.into()));
+        assert!(plain(&out[given..]).iter().all(|&word| word == SENTINEL));
+        assert!(ways[given..].iter().all(|&word| word == SENTINEL));
+    }
     fits(&all[1..], |out| map.neighbours_into(Cell(0), out));
     fits(&all, |out| map.cells_into(Type::Triangle, out));
 }
@@ -157,7 +171,8 @@ fn a_full_mesh_is_built_and_whole() {
     assert_eq!(near, Ok([29_999, 30_001].map(Cell).to_vec()));
     let cycle = map.cycle(Cell(30_000), 1);
     let (here, there) = (Half::of(Cell(30_000), 1), Half::of(Cell(30_001), 0));
-    assert_eq!(cycle, Ok(vec![here, there]));
+    // (c + 1, c + 2) in each of two cells
+    assert_eq!(cycle, Ok(vec![(here, Way::Same), (there, Way::Same)]));
     let beyond = map.insert(Cell(65_535), Type::Bar, &[0, 1].map(Mark));
     assert_eq!(beyond, Err(Refusal::CellOutside));
     assert_eq!(map.remove(Cell(30_000)), Ok(()));
@@ -199,7 +214,9 @@ fn a_full_mesh_of_bricks_is_built_whole_and_emptied() {
     assert_eq!(near, Ok(due.map(Cell).to_vec()));
     // the marks 30,001, 30,002, 30,005 and 30,006 are a face of three bricks
     let cycle = [(30_000, 2), (30_001, 1), (29_999, 3)].map(|(c, f)| Half::of(Cell(c), f));
-    assert_eq!(map.cycle(Cell(30_000), 2), Ok(cycle.to_vec()));
+    // (1,2,6,5) of it, (0,1,5,4) of the next, (2,3,7,6) of the one before
+    let due = cycle.map(|half| (half, Way::Same)).to_vec();
+    assert_eq!(map.cycle(Cell(30_000), 2), Ok(due));
     let face = [30_006, 30_002, 30_001, 30_005].map(Mark);
     assert_eq!(map.lookup(&face), Ok(Some(cycle[2])));
     let marks: Vec<Mark> = (30_000..30_008).map(Mark).collect();

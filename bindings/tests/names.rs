@@ -3,7 +3,7 @@
 
 use std::path::Path;
 
-use mengkiloh::{Edition, Refusal, Type};
+use mengkiloh::{Edition, Refusal, Type, Way};
 
 /// What stands between the braces behind `opening` in a file of the repository.
 fn braced(file: &str, opening: &str) -> String {
@@ -110,6 +110,26 @@ fn every_edition_of_the_second_program_is_one_and_no_other() {
             known.then_some(number).ok_or(number)
         );
     }
+}
+
+/// Lone, same, opposite, neither: 0 to 3, here, in the header and in the second
+/// program.
+#[test]
+fn the_ways_are_0_to_3() {
+    let ways = [Way::Lone, Way::Same, Way::Opposite, Way::Neither];
+    assert_eq!(ways.map(u32::from), [0, 1, 2, 3]);
+    assert_eq!([0, 1, 2, 3].map(Way::try_from), ways.map(Ok));
+    assert_eq!(Way::try_from(4), Err(4));
+    let inside = braced("include/mengkiloh.h", "enum mk_way {");
+    let header = inside
+        .lines()
+        .filter_map(|line| line.trim().strip_prefix("MK_")?.split([',', '/']).next())
+        .map(|row| row.trim().to_string());
+    let named = ways.map(|way| format!("{} = {}", upper(&format!("{way:?}")), u32::from(way)));
+    assert_eq!(Vec::from_iter(header), named);
+    use second::Way::*;
+    let theirs = [Lone, Same, Opposite, Neither].map(|way| (format!("{way:?}"), way.number()));
+    assert_eq!(theirs, ways.map(|way| (format!("{way:?}"), way.into())));
 }
 
 #[test]

@@ -42,5 +42,9 @@ fn tell(map: &Memory, mark: u32) -> Result<(), Refusal> {
         let (cell, facet) = (anchor / 8, anchor % 8);
         println!("a sheet begins at cell {cell}, facet {facet}");
     }
+    for (half, way) in map.cycle(0, 1, 128, 128)? {
+        let (cell, facet) = (half / 8, half % 8);
+        println!("cell {cell}, facet {facet}: the next runs {way:?}");
+    }
     Ok(())
 }

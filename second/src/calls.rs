@@ -6,9 +6,10 @@
 //! Queries: 3, 5, 13, 6, 7, 8, 9, 12, those that apply." Request 8 adds "6 for
 //! another edition, before 1 and like it; 19 for the third solid, after 10 and
 //! before 11". Numbers come in uncut, as whole 32-bit words. A half-facet is
-//! answered as its number.
+//! answered as its number; with a sibling, a walker's step and each entry of a
+//! cycle comes which way its sibling runs (request 6).
 
-use crate::map::{self, Cell, HalfFacet, LiveCell, Mark};
+use crate::map::{self, Cell, HalfFacet, LiveCell, Mark, Way};
 use crate::shapes::{type_with_code, Type, DIMENSIONS, HALF_FACETS_A_CELL, LOOKUP_MARKS, SOLID};
 use crate::Refusal;
 use std::ops::RangeInclusive;
@@ -193,17 +194,28 @@ impl Memory {
         }
     }
 
-    /// Sibling: 14, 3, 5, 13.
-    pub fn sibling(&self, cell: u32, facet: u32) -> Result<u32, Refusal> {
+    /// Sibling, and which way it runs: 14, 3, 5, 13.
+    pub fn sibling(&self, cell: u32, facet: u32) -> Result<(u32, Way), Refusal> {
         let half = self.queried_half_facet(cell, facet)?;
-        Ok(map::sibling(&self.held()?.live, &half).number())
+        let live = &self.held()?.live;
+        Ok((map::sibling(live, &half).number(), map::way(live, &half)))
     }
 
-    /// Whole cycle from a half-facet: 14, 3, 5, 13, 12.
-    pub fn cycle(&self, cell: u32, facet: u32, room: usize) -> Result<Vec<u32>, Refusal> {
+    /// Whole cycle from a half-facet, each entry with the way its own sibling,
+    /// the next one, runs: 14, 3, 5, 13, 12. It is given as two lists, and 12 is
+    /// for either.
+    pub fn cycle(
+        &self,
+        cell: u32,
+        facet: u32,
+        room: usize,
+        ways_room: usize,
+    ) -> Result<Vec<(u32, Way)>, Refusal> {
         let half = self.queried_half_facet(cell, facet)?;
-        let cycle = map::cycle(&self.held()?.live, &half);
-        list_fits(half_facet_numbers(&cycle), room)
+        let live = &self.held()?.live;
+        let cycle = map::cycle(live, &half);
+        let with_way = |half: &HalfFacet| (half.number(), map::way(live, half));
+        list_fits(cycle.iter().map(with_way).collect(), room.min(ways_room))
     }
 
     /// Border or not: 14, 3, 5, 13.
@@ -320,11 +332,12 @@ impl Memory {
 
 impl Walker {
     /// "After an edit a step gives the sibling as it is then, or the refusal
-    /// for that half-facet": 14, 3, 5, 13.
-    pub fn step(&self, memory: &Memory) -> Result<Walker, Refusal> {
+    /// for that half-facet": 14, 3, 5, 13. Beside it which way that runs.
+    pub fn step(&self, memory: &Memory) -> Result<(Walker, Way), Refusal> {
         let cell = self.half / HALF_FACETS_A_CELL;
         let facet = self.half % HALF_FACETS_A_CELL;
-        memory.sibling(cell, facet).map(|half| Walker { half })
+        let (half, way) = memory.sibling(cell, facet)?;
+        Ok((Walker { half }, way))
     }
 }
 
@@ -434,7 +447,7 @@ fn no_full_mark(mesh: &Mesh, marks: &[Mark]) -> Result<(), Refusal> {
 }
 
 /// 12: "output buffer shorter than the list"
-fn list_fits(list: Vec<u32>, room: usize) -> Result<Vec<u32>, Refusal> {
+fn list_fits<T>(list: Vec<T>, room: usize) -> Result<Vec<T>, Refusal> {
     refuse_if(room < list.len(), Refusal::OutputShort)?;
     Ok(list)
 }

@@ -9,12 +9,13 @@
 //! order, the wedge taken away; memory that is no mesh; under edition 2 an edge
 //! with many faces, a build refused at the third solid on a face, and third
 //! solids on faces in crossed order, on a triangle and on a quad, some of them
-//! accepted after a removal. `bound` lines are the outline's "To run":
+//! accepted after a removal; siblings that run every way, at bar ends, edges and
+//! faces of three and four marks. `bound` lines are the outline's "To run":
 //! capacities, editions, rooms, a mark's 128th and 129th cell, lists that fit
 //! exactly and lists one place too long.
 
 use crate::calls::{FIRST_EDITION, SECOND_EDITION};
-use crate::{Memory, Refusal, Walker};
+use crate::{Memory, Refusal, Walker, Way};
 use std::fmt::Write;
 
 const BAR: u32 = 1;
@@ -215,6 +216,45 @@ const LIMITED_SOLIDS: &[Case] = &[
     ),
 ];
 
+/// Siblings that run every way: at bar ends; at edges, where a cell comes back
+/// the other way round; at faces of three marks and of four.
+const WAYS: &[Case] = &[
+    case(
+        "R31",
+        &[(0, BAR, &[0, 1]), (1, BAR, &[0, 2]), (2, BAR, &[3, 0])],
+        &[],
+    ),
+    case(
+        "R32",
+        &[
+            (0, TRI, &[0, 1, 2]),
+            (1, TRI, &[3, 0, 1]),
+            (2, TRI, &[1, 0, 4]),
+        ],
+        &[Remove(1), Insert((1, TRI, &[3, 1, 0]))],
+    ),
+    case(
+        "R33",
+        &[
+            (0, TETRA, &[0, 1, 2, 3]),
+            (1, TETRA, &[1, 2, 0, 4]),
+            (2, PYRA, &[0, 1, 4, 3, 2]),
+        ],
+        &[],
+    ),
+];
+
+const WAYS_OF_SOLIDS: &[Case] = &[case(
+    "R34",
+    &[],
+    &[
+        BRICK,
+        Insert((1, PYRA, &[7, 6, 5, 4, 8])),
+        Insert((2, PYRA, &[7, 4, 6, 5, 9])),
+        Insert((3, HEXA, &[4, 5, 6, 7, 8, 9, 10, 11])),
+    ],
+)];
+
 /// All of it, one answer or one group of answers a line.
 pub fn text() -> String {
     let mut text = Text::default();
@@ -223,6 +263,8 @@ pub fn text() -> String {
     text.everything("R25", &Memory::lent(WORDS));
     text.small(LIMITED, SECOND_EDITION);
     text.solids(LIMITED_SOLIDS, SECOND_EDITION);
+    text.small(WAYS, FIRST_EDITION);
+    text.solids(WAYS_OF_SOLIDS, FIRST_EDITION);
     text.formats();
     text.editions();
     text.full_mark();
@@ -258,9 +300,23 @@ impl Answer for usize {
     }
 }
 
-impl Answer for Walker {
+impl Answer for (u32, Way) {
     fn says(&self) -> String {
-        self.half.to_string()
+        format!("{} way {}", self.0, self.1.number())
+    }
+}
+
+impl Answer for (Walker, Way) {
+    fn says(&self) -> String {
+        (self.0.half, self.1).says()
+    }
+}
+
+impl Answer for Vec<(u32, Way)> {
+    fn says(&self) -> String {
+        let (halves, ways): (Vec<u32>, Vec<u32>) =
+            self.iter().map(|(half, way)| (half, way.number())).unzip();
+        format!("{}, ways {}", halves.says(), ways.says())
     }
 }
 
@@ -415,7 +471,7 @@ impl Text {
         for facet in 0..=6 {
             let sibling = memory.sibling(cell, facet).says();
             let border = memory.border(cell, facet).says();
-            let cycle = memory.cycle(cell, facet, PLENTY).says();
+            let cycle = memory.cycle(cell, facet, PLENTY, PLENTY).says();
             let half = 8 * cell + facet;
             let step = Walker { half }.step(memory).says();
             self.line(format!(
@@ -515,6 +571,8 @@ impl Text {
         for room in [126, 127, 128] {
             self.lists(&memory, room);
         }
+        self.ring(&memory, 127, 128);
+        self.ring(&memory, 128, 127);
         let removed = memory.remove(5).says();
         self.line(format!("bound remove 5: {removed}"));
         self.lists(&memory, 127);
@@ -531,14 +589,19 @@ impl Text {
 
     fn lists(&mut self, memory: &Memory, room: usize) {
         let star = memory.star(1, 0, room).says();
-        let cycle = memory.cycle(7, 0, room).says();
         let neighbours = memory.neighbours(7, room).says();
         let cells = memory.cells_of_type(BAR, room).says();
         let anchors = memory.anchors(1, 0, room).says();
         self.line(format!("bound star {room}: {star}"));
-        self.line(format!("bound cycle {room}: {cycle}"));
         self.line(format!("bound neighbours {room}: {neighbours}"));
         self.line(format!("bound cells {room}: {cells}"));
         self.line(format!("bound anchors {room}: {anchors}"));
+        self.ring(memory, room, room);
+    }
+
+    /// The cycle, and the ways beside it, each into its own room.
+    fn ring(&mut self, memory: &Memory, room: usize, ways_room: usize) {
+        let cycle = memory.cycle(7, 0, room, ways_room).says();
+        self.line(format!("bound cycle {room} {ways_room}: {cycle}"));
     }
 }

@@ -124,7 +124,9 @@ impl Program {
             Frame::Anchors { dimension, mark } => memory
                 .anchors(dimension, mark, usize::MAX)
                 .map(|anchors| counted(&anchors, |&half| cell_and_facet(half))),
-            Frame::Sibling { cell, facet } => memory.sibling(cell, facet).map(cell_and_facet),
+            Frame::Sibling { cell, facet } => memory
+                .sibling(cell, facet)
+                .map(|(half, way)| [cell_and_facet(half), vec![way as u8]].concat()),
         }
     }
 }

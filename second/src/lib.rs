@@ -21,4 +21,5 @@ pub mod refusal;
 pub mod shapes;
 
 pub use calls::{room, Memory, Mesh, Walker};
+pub use map::Way;
 pub use refusal::Refusal;

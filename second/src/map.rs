@@ -25,12 +25,30 @@ pub struct LiveCell {
     pub marks: Vec<Mark>,
 }
 
-/// A local facet of a live cell, with the marks of that facet.
+/// A local facet of a live cell, with the places of its marks in the cell's
+/// list and the marks themselves.
 #[derive(Clone, Debug, PartialEq, Eq)]
 pub struct HalfFacet {
     pub cell: Cell,
     pub facet: u32,
+    pub places: &'static [usize],
     pub marks: Vec<Mark>,
+}
+
+/// Which way a half-facet's sibling runs: "lone (no other), same, opposite or
+/// neither". The values are the byte's, "0 to 3 in that order".
+#[derive(Clone, Copy, Debug, PartialEq, Eq)]
+pub enum Way {
+    Lone = 0,
+    Same = 1,
+    Opposite = 2,
+    Neither = 3,
+}
+
+impl Way {
+    pub fn number(self) -> u32 {
+        self as u32
+    }
 }
 
 impl HalfFacet {
@@ -53,6 +71,7 @@ pub fn half_facets_of(cell: &LiveCell) -> Vec<HalfFacet> {
         .map(|(facet, places)| HalfFacet {
             cell: cell.number,
             facet,
+            places,
             marks: places.iter().map(|&place| cell.marks[place]).collect(),
         })
         .collect()
@@ -83,6 +102,46 @@ pub fn sibling(live: &[LiveCell], half: &HalfFacet) -> HalfFacet {
     let set = siblings(live, half);
     let next = set.iter().find(|other| other.number() > half.number());
     next.or(set.first()).unwrap_or(half).clone()
+}
+
+/// Which way the sibling of a half-facet runs: "lone (no other), same, opposite
+/// or neither".
+pub fn way(live: &[LiveCell], half: &HalfFacet) -> Way {
+    match border(live, half) {
+        true => Way::Lone,
+        false => runs(half, &sibling(live, half)),
+    }
+}
+
+/// Which way one runs beside another with an equal set of marks. "Bar ends are
+/// opposite if their places differ, otherwise same. An edge is same if its mark
+/// lists are equal, opposite if reversed. A face is same if one list is a
+/// rotation of the other, opposite if it is a rotation of the other reversed,
+/// and neither otherwise."
+fn runs(one: &HalfFacet, other: &HalfFacet) -> Way {
+    let reversed: Vec<Mark> = one.marks.iter().rev().copied().collect();
+    let (same, opposite) = match one.marks.len() {
+        1 => (one.places == other.places, one.places != other.places),
+        2 => (one.marks == other.marks, reversed == other.marks),
+        _ => (
+            is_rotation(&one.marks, &other.marks),
+            is_rotation(&reversed, &other.marks),
+        ),
+    };
+    match (same, opposite) {
+        (true, _) => Way::Same,
+        (false, true) => Way::Opposite,
+        (false, false) => Way::Neither,
+    }
+}
+
+/// Whether one list, begun at some place and gone round, is the other.
+fn is_rotation(one: &[Mark], other: &[Mark]) -> bool {
+    (0..one.len()).any(|place| {
+        let mut turned = one.to_vec();
+        turned.rotate_left(place);
+        turned == other
+    })
 }
 
 /// "whole cycle from a half-facet (that one first, then in cycle order)"

@@ -16,8 +16,8 @@ fn the_largest_capacities_are_used_to_their_last_number() {
     assert_eq!(memory.format(65_535, 65_535), Ok(()));
     assert_eq!(memory.insert(65_534, TRI, &[65_534, 0, 1]), Ok(()));
     assert_eq!(memory.insert(0, TRI, &[0, 65_534, 2]), Ok(()));
-    assert_eq!(memory.sibling(0, 0), Ok(8 * 65_534));
-    assert_eq!(memory.sibling(65_534, 0), Ok(0));
+    assert_eq!(memory.next(0, 0), Ok(8 * 65_534));
+    assert_eq!(memory.next(65_534, 0), Ok(0));
     assert_eq!(memory.star(2, 65_534, PLENTY), Ok(vec![0, 65_534]));
     let unknown_cell = memory.insert(65_535, TRI, &[3, 4, 5]);
     assert_eq!(unknown_cell, Err(Refusal::CellOutside));
@@ -96,11 +96,11 @@ fn one_hundred_and_twenty_eight_triangles_share_an_edge() {
         Err(Refusal::MarkFull)
     );
     for cell in 0..128 {
-        assert_eq!(memory.sibling(cell, 0), Ok(8 * ((cell + 1) % 128)));
+        assert_eq!(memory.next(cell, 0), Ok(8 * ((cell + 1) % 128)));
     }
     let all: Vec<u32> = (0..128).map(|cell| 8 * cell).collect();
-    assert_eq!(memory.cycle(0, 0, 128), Ok(all));
-    assert_eq!(memory.cycle(0, 0, 127), Err(Refusal::OutputShort));
+    assert_eq!(memory.ring(0, 0, 128), Ok(all));
+    assert_eq!(memory.ring(0, 0, 127), Err(Refusal::OutputShort));
     assert_eq!(memory.neighbours(64, PLENTY).unwrap().len(), 127);
     // One group: its smallest border at mark 1 is the other edge of cell 0.
     assert_eq!(memory.anchors(2, 1, PLENTY), Ok(vec![1]));
@@ -114,7 +114,7 @@ fn a_list_fits_exactly_or_is_refused() {
         (
             "cycle",
             p4(),
-            |it, room| it.cycle(1, 0, room),
+            |it, room| it.ring(1, 0, room),
             vec![8, 16, 0],
         ),
         ("star", p4(), |it, room| it.star(2, 1, room), vec![0, 1, 2]),

@@ -186,11 +186,19 @@ impl Lines {
 
     fn half_facet(&mut self, memory: &Memory, cell: u32, facet: u32) {
         let sibling = memory.sibling(cell, facet);
-        self.one(&format!("sibling {cell} {facet}"), sibling);
+        let half = sibling.ok().map(|(half, _)| half);
+        let way = sibling.ok().map(|(_, way)| way.number());
+        let what = format!("sibling {cell} {facet}");
+        self.say(&what, number(&sibling), &[word(half), word(way)]);
         let border = memory.border(cell, facet).map(u32::from);
         self.one(&format!("border {cell} {facet}"), border);
-        let cycle = memory.cycle(cell, facet, PLACES);
-        self.list(&format!("cycle {cell} {facet}"), cycle);
+        let cycle = memory.cycle(cell, facet, PLACES, PLACES);
+        let halves = cycle
+            .clone()
+            .map(|list| list.iter().map(|it| it.0).collect());
+        self.list(&format!("cycle {cell} {facet}"), halves);
+        let ways = cycle.map(|list| list.iter().map(|it| it.1.number()).collect());
+        self.list(&format!("ways {cell} {facet}"), ways);
     }
 
     fn lookup(&mut self, memory: &Memory, set: &[u32]) {

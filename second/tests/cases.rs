@@ -3,6 +3,7 @@
 mod common;
 
 use common::maps::*;
+use second::Way::{Lone, Opposite, Same};
 use second::{Memory, Refusal};
 
 #[test]
@@ -22,7 +23,7 @@ fn p2_one_triangle_all_border() {
     let p2 = p2();
     for facet in 0..3 {
         assert_eq!(p2.border(0, facet), Ok(true));
-        assert_eq!(p2.sibling(0, facet), Ok(facet));
+        assert_eq!(p2.sibling(0, facet), Ok((facet, Lone)));
     }
     assert_eq!(p2.anchors(2, 2, PLENTY), Ok(vec![1]));
     assert_eq!(p2.first_anchor(2, 2), Ok(Some(1)));
@@ -31,17 +32,17 @@ fn p2_one_triangle_all_border() {
 #[test]
 fn p3_two_triangles_are_siblings_across_an_edge() {
     let p3 = p3();
-    assert_eq!(p3.sibling(0, 1), Ok(8));
-    assert_eq!(p3.sibling(1, 0), Ok(1));
+    assert_eq!(p3.sibling(0, 1), Ok((8, Opposite)));
+    assert_eq!(p3.sibling(1, 0), Ok((1, Opposite)));
     assert_eq!(borders(&p3), [0, 2, 9, 10]);
 }
 
 #[test]
 fn p4_three_triangles_share_an_edge() {
     let p4 = p4();
-    assert_eq!(p4.sibling(0, 0), Ok(8));
-    assert_eq!(p4.sibling(1, 0), Ok(16));
-    assert_eq!(p4.sibling(2, 0), Ok(0));
+    assert_eq!(p4.sibling(0, 0), Ok((8, Same)));
+    assert_eq!(p4.sibling(1, 0), Ok((16, Same)));
+    assert_eq!(p4.sibling(2, 0), Ok((0, Same)));
 }
 
 #[test]
@@ -54,8 +55,8 @@ fn p5_two_sheets_touch_in_a_mark() {
 #[test]
 fn p6_tetrahedra_share_a_face_in_another_order() {
     let p6 = p6();
-    assert_eq!(p6.sibling(0, 0), Ok(8));
-    assert_eq!(p6.sibling(1, 0), Ok(0));
+    assert_eq!(p6.sibling(0, 0), Ok((8, Opposite)));
+    assert_eq!(p6.sibling(1, 0), Ok((0, Opposite)));
     assert_eq!(p6.anchors(3, 0, PLENTY), Ok(vec![1]));
 }
 
@@ -69,16 +70,16 @@ fn p7_a_closed_surface_has_no_border() {
 #[test]
 fn p8_bars_meet_in_a_mark() {
     let p8 = p8();
-    assert_eq!(p8.sibling(0, 1), Ok(8));
-    assert_eq!(p8.sibling(1, 0), Ok(1));
+    assert_eq!(p8.sibling(0, 1), Ok((8, Opposite)));
+    assert_eq!(p8.sibling(1, 0), Ok((1, Opposite)));
     assert_eq!(p8.anchors(1, 1, PLENTY), Ok(vec![1]));
 }
 
 #[test]
 fn p9_a_removal_closes_the_cycle() {
     let p9 = p9();
-    assert_eq!(p9.sibling(0, 0), Ok(16));
-    assert_eq!(p9.sibling(2, 0), Ok(0));
+    assert_eq!(p9.sibling(0, 0), Ok((16, Same)));
+    assert_eq!(p9.sibling(2, 0), Ok((0, Same)));
     assert_eq!(p9.sibling(1, 0), Err(Refusal::CellNotLive));
 }
 

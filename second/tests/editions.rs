@@ -78,7 +78,7 @@ fn memory_of_another_edition_is_no_mesh() {
         memory.mesh.as_mut().unwrap().edition = edition;
         assert!(!memory.whole());
         assert_eq!(memory.edition(), Err(Refusal::NotMesh));
-        assert_eq!(memory.sibling(0, 0), Err(Refusal::NotMesh));
+        assert_eq!(memory.next(0, 0), Err(Refusal::NotMesh));
         assert_eq!(memory.remove(0), Err(Refusal::NotMesh));
     }
 }
@@ -133,7 +133,7 @@ fn third_of(solids: &[Record; 3], face: &[u32]) {
         assert_eq!(memory.insert(third.0, third.1, third.2), THIRD);
         assert_eq!(memory.insert(3, third.1, third.2), THIRD);
         let found = memory.lookup(face).unwrap().unwrap();
-        let cycle = memory.cycle(found / 8, found % 8, PLENTY).unwrap();
+        let cycle = memory.ring(found / 8, found % 8, PLENTY).unwrap();
         assert_eq!(cycle.len(), 2);
         for (out, stays) in [(one, other), (other, one)] {
             let mut memory = memory.clone();
@@ -196,7 +196,7 @@ fn only_faces_of_solids_are_limited() {
         assert_eq!(memory.insert(cell, TRI, &[4, 5, other]), Ok(()));
         assert_eq!(memory.insert(cell + 15, BAR, &[4, other]), Ok(()));
     }
-    assert_eq!(memory.cycle(4, 0, PLENTY).map(|them| them.len()), Ok(17));
+    assert_eq!(memory.ring(4, 0, PLENTY).map(|them| them.len()), Ok(17));
     // Solids that share an edge only.
     assert_eq!(memory.insert(35, TETRA, &[4, 5, 30, 31]), Ok(()));
     assert_eq!(memory.insert(36, TETRA, &[4, 5, 32, 33]), Ok(()));

@@ -9,7 +9,7 @@ const WORKED: [(&str, &str); 10] = [
     ("a0000102000200010003", "00"),
     ("50020001", "00000200000001"),
     ("51020001", "000001000000"),
-    ("5b000001", "00000100"),
+    ("5b000001", "0000010002"),
     ("d00000", "00"),
     ("50020001", "0000010001"),
     ("d00000", "05"),
@@ -43,7 +43,7 @@ fn check_bad(line: &[u8]) {
     }
     input.extend([line, b"\n50020001\n5b000001\n"].concat());
     let output = text(&run(&input));
-    let due = "00\n00\n00\n0f\n00000200000001\n00000100\n";
+    let due = "00\n00\n00\n0f\n00000200000001\n0000010002\n";
     assert_eq!(output, due, "{:?}", String::from_utf8_lossy(line));
 }
 
@@ -51,7 +51,7 @@ fn check_bad(line: &[u8]) {
 fn the_worked_case_byte_for_byte() {
     let input = b"f000060004\na0000002000000010002\na0000102000200010003\n50020001\n\
         51020001\n5b000001\nd00000\n50020001\nd00000\n\n";
-    let output = "00\n00\n00\n00000200000001\n000001000000\n00000100\n00\n0000010001\n05\n0f\n";
+    let output = "00\n00\n00\n00000200000001\n000001000000\n0000010002\n00\n0000010001\n05\n0f\n";
     assert_eq!(text(&run(input)), output);
     check(&WORKED);
 }
@@ -252,7 +252,7 @@ fn capacities_384_and_385() {
         ("f000000181", "01"),
         // The refused formats changed nothing.
         ("5001017f", "000001017f"),
-        ("5b017f00", "00017f00"),
+        ("5b017f00", "00017f0000"),
         ("f001800000", "00"),
         ("5001017f", "000000"),
         ("f000000180", "00"),
@@ -313,7 +313,7 @@ fn refusals_8_to_11_by_each_frame() {
     lines.push(("a0008001000000ff".into(), "0b".into()));
     let cells: String = (0..128).map(|cell| format!("{cell:04x}")).collect();
     lines.push(("50010000".into(), format!("000080{cells}")));
-    lines.push(("5b007f00".into(), "00000000".into()));
+    lines.push(("5b007f00".into(), "0000000001".into()));
     let lines: Vec<(&str, &str)> = lines
         .iter()
         .map(|(line, answer)| (line.as_str(), answer.as_str()))
@@ -324,10 +324,33 @@ fn refusals_8_to_11_by_each_frame() {
 #[test]
 fn refusal_13_by_its_frame() {
     check_on_map(&[
-        ("5b000002", "00000002"),
+        ("5b000002", "0000000200"),
         ("5b000003", "0d"),
         ("5b000008", "0d"),
         ("5b0000ff", "0d"),
+    ]);
+}
+
+/// "frame 5b, which gets one more byte (0 to 3 in that order)": lone, same,
+/// opposite, neither; "a refusal is its byte alone".
+#[test]
+fn a_sibling_is_followed_by_its_way() {
+    check(&[
+        ("f0000b0004", "00"),
+        // a brick, and on its face of the marks 4 to 7 a pyramid that runs the
+        // same way, one in crossed order and one that runs the opposite way
+        ("a000000700000001000200030004000500060007", "00"),
+        ("a000010500070006000500040008", "00"),
+        ("a000020500070004000600050009", "00"),
+        ("a00003050004000500060007000a", "00"),
+        ("5b000000", "0000000000"),
+        ("5b000005", "0000010001"),
+        ("5b000100", "0000020003"),
+        ("5b000200", "0000030003"),
+        ("5b000300", "0000000502"),
+        ("d00002", "00"),
+        ("5b000100", "0000030002"),
+        ("5b000200", "05"),
     ]);
 }
 

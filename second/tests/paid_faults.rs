@@ -11,10 +11,10 @@ fn no_sharer_is_lost_in_p4() {
     let p4 = p4();
     for cell in 0..3 {
         assert_eq!(p4.border(cell, 0), Ok(false), "cell {cell} left over");
-        let cycle = p4.cycle(cell, 0, PLENTY).unwrap();
+        let cycle = p4.ring(cell, 0, PLENTY).unwrap();
         assert_eq!(cycle.len(), 3, "from cell {cell}");
-        let back = p4.sibling(cell, 0).unwrap();
-        let there_and_back = p4.sibling(back / 8, back % 8).unwrap();
+        let back = p4.next(cell, 0).unwrap();
+        let there_and_back = p4.next(back / 8, back % 8).unwrap();
         assert_ne!(there_and_back, 8 * cell, "cell {cell} is in a pair");
     }
     assert_eq!(p4.star(2, 0, PLENTY), Ok(vec![0, 1, 2]));
@@ -53,11 +53,11 @@ fn nothing_in_p9_points_to_a_dead_cell() {
     let p9 = p9();
     for cell in [0, 2] {
         for facet in 0..3 {
-            let sibling = p9.sibling(cell, facet).unwrap();
+            let sibling = p9.next(cell, facet).unwrap();
             assert_eq!(p9.type_of(sibling / 8), Ok(TRI));
         }
     }
-    assert_eq!(p9.cycle(0, 0, PLENTY).unwrap().len(), 2);
+    assert_eq!(p9.ring(0, 0, PLENTY).unwrap().len(), 2);
 }
 
 /// "Anchoring at the smallest half-facet without looking at borders: P6 gives

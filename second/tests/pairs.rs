@@ -464,11 +464,17 @@ fn walker_3_5_13() {
 #[test]
 fn cycle_3_5_13_12() {
     let mut pairs = Pairs::in_order(&[14, 3, 5, 13, 12]);
-    for (room, of_room) in rooms() {
+    let both_rooms: [Choice<(usize, usize)>; 4] = [
+        ((PLENTY, PLENTY), &[]),
+        ((0, PLENTY), &[12]),
+        ((PLENTY, 1), &[12]),
+        ((1, 0), &[12]),
+    ];
+    for ((room, ways_room), of_room) in both_rooms {
         for (memory, of_memory) in memories() {
             for (cell, of_cell) in cells() {
                 for (facet, of_facet) in facets() {
-                    let answer = memory.cycle(cell, facet, room);
+                    let answer = memory.cycle(cell, facet, room, ways_room);
                     pairs.see(&[of_memory, of_cell, of_facet, of_room], answer.err());
                 }
             }

@@ -4,7 +4,7 @@
 mod common;
 
 use common::answers::answers;
-use common::maps::{formatted_edition, PLENTY};
+use common::maps::{formatted_edition, WithoutWays, PLENTY};
 use common::random::{insert_by_chance, map_by_chance, Random};
 use second::map::{self, Cell, HalfFacet, LiveCell, Mark};
 use second::Memory;
@@ -50,7 +50,7 @@ fn siblings_part_the_half_facets_by_their_sets() {
     for memory in maps(1) {
         let all = map::half_facets(live(&memory));
         for half in &all {
-            let cycle = memory.cycle(half.cell.0, half.facet, PLENTY).unwrap();
+            let cycle = memory.ring(half.cell.0, half.facet, PLENTY).unwrap();
             longest = longest.max(cycle.len());
             for other in &all {
                 let in_cycle = cycle.iter().filter(|&&it| it == other.number()).count();
@@ -67,11 +67,11 @@ fn the_sibling_leads_through_the_cycle_in_ascending_order() {
     for memory in maps(2) {
         for half in map::half_facets(live(&memory)) {
             let (cell, facet) = (half.cell.0, half.facet);
-            let cycle = memory.cycle(cell, facet, PLENTY).unwrap();
+            let cycle = memory.ring(cell, facet, PLENTY).unwrap();
             assert_eq!(cycle[0], half.number());
             for (place, it) in cycle.iter().enumerate() {
                 let next = cycle[(place + 1) % cycle.len()];
-                assert_eq!(memory.sibling(it / 8, it % 8), Ok(next));
+                assert_eq!(memory.next(it / 8, it % 8), Ok(next));
             }
             let descents = (0..cycle.len())
                 .filter(|&place| cycle[(place + 1) % cycle.len()] <= cycle[place])
@@ -90,7 +90,7 @@ fn neighbours_are_the_other_cells_of_the_cycles() {
         for cell in live(&memory) {
             let mut due = Vec::new();
             for half in map::half_facets_of(cell) {
-                let cycle = memory.cycle(half.cell.0, half.facet, PLENTY).unwrap();
+                let cycle = memory.ring(half.cell.0, half.facet, PLENTY).unwrap();
                 due.extend(cycle.iter().map(|it| it / 8));
             }
             due.sort();
@@ -146,7 +146,7 @@ fn is_linked(memory: &Memory, mark: u32, some: &[u32], others: &[u32]) -> bool {
     halves
         .filter(|half| some.contains(&half.cell.0) && half.marks.contains(&Mark(mark)))
         .any(|half| {
-            let cycle = memory.cycle(half.cell.0, half.facet, PLENTY).unwrap();
+            let cycle = memory.ring(half.cell.0, half.facet, PLENTY).unwrap();
             cycle.iter().any(|it| others.contains(&(it / 8)))
         })
 }

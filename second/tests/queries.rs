@@ -32,8 +32,8 @@ fn a_star_is_of_one_dimension_and_ascending() {
 #[test]
 fn siblings_are_of_any_types_of_one_dimension() {
     let memory = mixed();
-    assert_eq!(memory.sibling(5, 0), Ok(8));
-    assert_eq!(memory.sibling(1, 0), Ok(40));
+    assert_eq!(memory.next(5, 0), Ok(8));
+    assert_eq!(memory.next(1, 0), Ok(40));
     assert_eq!(memory.neighbours(5, PLENTY), Ok(vec![1]));
     assert_eq!(memory.neighbours(1, PLENTY), Ok(vec![5]));
     assert_eq!(memory.neighbours(7, PLENTY), Ok(vec![]));
@@ -77,10 +77,10 @@ fn a_dimension_without_cells_has_no_first_anchor() {
 #[test]
 fn a_cycle_starts_where_it_is_asked() {
     let memory = p4();
-    assert_eq!(memory.cycle(0, 0, PLENTY), Ok(vec![0, 8, 16]));
-    assert_eq!(memory.cycle(1, 0, PLENTY), Ok(vec![8, 16, 0]));
-    assert_eq!(memory.cycle(2, 0, PLENTY), Ok(vec![16, 0, 8]));
-    assert_eq!(memory.cycle(2, 1, PLENTY), Ok(vec![17]));
+    assert_eq!(memory.ring(0, 0, PLENTY), Ok(vec![0, 8, 16]));
+    assert_eq!(memory.ring(1, 0, PLENTY), Ok(vec![8, 16, 0]));
+    assert_eq!(memory.ring(2, 0, PLENTY), Ok(vec![16, 0, 8]));
+    assert_eq!(memory.ring(2, 1, PLENTY), Ok(vec![17]));
 }
 
 /// Half-facet 0 is a border of the group but does not hold mark 2; in P7
@@ -138,7 +138,7 @@ fn a_group_is_joined_through_its_members() {
 #[test]
 fn two_quads_joined_away_from_the_mark_are_two_groups() {
     let quads = mesh(6, 4, &[(0, QUAD, &[0, 1, 2, 3]), (1, QUAD, &[0, 4, 1, 2])]);
-    assert_eq!(quads.sibling(0, 1), Ok(10));
+    assert_eq!(quads.next(0, 1), Ok(10));
     assert_eq!(quads.anchors(2, 0, PLENTY), Ok(vec![0, 8]));
     assert_eq!(quads.anchors(2, 1, PLENTY), Ok(vec![0]));
     assert_eq!(quads.anchors(2, 2, PLENTY), Ok(vec![2]));
@@ -149,8 +149,8 @@ fn two_quads_joined_away_from_the_mark_are_two_groups() {
 #[test]
 fn two_quads_that_share_two_edges_are_one_group_by_the_one_at_the_mark() {
     let quads = mesh(6, 4, &[(0, QUAD, &[0, 1, 2, 3]), (1, QUAD, &[0, 1, 2, 4])]);
-    assert_eq!(quads.sibling(0, 0), Ok(8));
-    assert_eq!(quads.sibling(0, 1), Ok(9));
+    assert_eq!(quads.next(0, 0), Ok(8));
+    assert_eq!(quads.next(0, 1), Ok(9));
     for mark in 0..3 {
         assert_eq!(quads.anchors(2, mark, PLENTY).map(|them| them.len()), Ok(1));
     }
@@ -172,8 +172,8 @@ fn solids_that_share_an_edge_only_are_not_linked() {
 #[test]
 fn a_neighbour_is_listed_once() {
     let memory = mesh(6, 4, &[(0, QUAD, &[0, 1, 2, 3]), (1, QUAD, &[0, 1, 2, 4])]);
-    assert_eq!(memory.sibling(0, 0), Ok(8));
-    assert_eq!(memory.sibling(0, 1), Ok(9));
+    assert_eq!(memory.next(0, 0), Ok(8));
+    assert_eq!(memory.next(0, 1), Ok(9));
     assert_eq!(memory.neighbours(0, PLENTY), Ok(vec![1]));
     assert_eq!(memory.neighbours(1, PLENTY), Ok(vec![0]));
 }

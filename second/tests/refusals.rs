@@ -21,7 +21,7 @@ fn about_cell(memory: &Memory, cell: u32) -> Vec<(&'static str, u8)> {
     vec![
         ("type", number(memory.type_of(cell))),
         ("sibling", number(memory.sibling(cell, 0))),
-        ("cycle", number(memory.cycle(cell, 0, PLENTY))),
+        ("cycle", number(memory.cycle(cell, 0, PLENTY, PLENTY))),
         ("border", number(memory.border(cell, 0))),
         ("neighbours", number(memory.neighbours(cell, PLENTY))),
         ("walker", number(walker_at(cell, 0).step(memory))),
@@ -281,7 +281,10 @@ fn refusal_11_a_mark_stands_in_128_cells_already() {
 #[test]
 fn refusal_12_the_list_does_not_fit() {
     let memory = p4();
-    assert_eq!(number(memory.cycle(0, 0, 2)), 12);
+    assert_eq!(number(memory.cycle(0, 0, 2, 2)), 12);
+    assert_eq!(number(memory.cycle(0, 0, 2, 3)), 12);
+    assert_eq!(number(memory.cycle(0, 0, 3, 2)), 12);
+    assert_eq!(number(memory.cycle(0, 0, 3, 3)), 0);
     assert_eq!(number(memory.star(2, 0, 2)), 12);
     assert_eq!(number(memory.neighbours(0, 1)), 12);
     assert_eq!(number(memory.cells_of_type(TRI, 2)), 12);
@@ -304,14 +307,14 @@ fn refusal_13_a_local_facet_not_below_the_types_count() {
         for facet in 0..8 {
             let due = if facet < count { 0 } else { 13 };
             assert_eq!(number(memory.sibling(cell, facet)), due);
-            assert_eq!(number(memory.cycle(cell, facet, PLENTY)), due);
+            assert_eq!(number(memory.cycle(cell, facet, PLENTY, PLENTY)), due);
             assert_eq!(number(memory.border(cell, facet)), due);
             assert_eq!(number(walker_at(cell, facet).step(&memory)), due);
         }
         // Never read as a half-facet of the next cell, nor cut to 8 bits.
         for facet in [8, 255, 256, u32::MAX] {
             assert_eq!(number(memory.sibling(cell, facet)), 13);
-            assert_eq!(number(memory.cycle(cell, facet, PLENTY)), 13);
+            assert_eq!(number(memory.cycle(cell, facet, PLENTY, PLENTY)), 13);
             assert_eq!(number(memory.border(cell, facet)), 13);
         }
     }

@@ -19,15 +19,15 @@ fn check_alone(code: u32, marks: &[u32], faces: Faces) {
     assert_eq!(memory.neighbours(2, PLENTY), Ok(vec![]));
     for (facet, face) in (0..).zip(faces) {
         let half = 16 + facet;
-        assert_eq!(memory.sibling(2, facet), Ok(half));
-        assert_eq!(memory.cycle(2, facet, PLENTY), Ok(vec![half]));
+        assert_eq!(memory.next(2, facet), Ok(half));
+        assert_eq!(memory.ring(2, facet, PLENTY), Ok(vec![half]));
         assert_eq!(memory.border(2, facet), Ok(true));
         assert_eq!(memory.lookup(face), Ok(Some(half)));
         let turned: Vec<u32> = face.iter().rev().copied().collect();
         assert_eq!(memory.lookup(&turned), Ok(Some(half)));
     }
     let beyond = faces.len() as u32;
-    assert_eq!(memory.sibling(2, beyond), Err(Refusal::FacetOutside));
+    assert_eq!(memory.next(2, beyond), Err(Refusal::FacetOutside));
     for mark in 0..20 {
         let first = (16..).zip(faces).find(|(_, face)| face.contains(&mark));
         let due: Vec<u32> = first.map(|(half, _)| half).into_iter().collect();
@@ -90,8 +90,8 @@ fn a_brick_on_a_brick() {
         4,
         &[(0, HEXA, &BRICK), (1, HEXA, &[4, 5, 6, 7, 8, 9, 10, 11])],
     );
-    assert_eq!(memory.sibling(0, 5), Ok(8));
-    assert_eq!(memory.sibling(1, 0), Ok(5));
+    assert_eq!(memory.next(0, 5), Ok(8));
+    assert_eq!(memory.next(1, 0), Ok(5));
     assert_eq!(memory.lookup(&[7, 5, 6, 4]), Ok(Some(5)));
     for facet in 0..5 {
         assert_eq!(memory.border(0, facet), Ok(true));
@@ -106,13 +106,13 @@ fn a_brick_on_a_brick() {
 #[test]
 fn a_pyramid_on_a_brick() {
     let mut memory = mesh(12, 4, &[(3, HEXA, &BRICK), (1, PYRA, &[4, 5, 6, 7, 8])]);
-    assert_eq!(memory.sibling(3, 5), Ok(8));
-    assert_eq!(memory.sibling(1, 0), Ok(29));
+    assert_eq!(memory.next(3, 5), Ok(8));
+    assert_eq!(memory.next(1, 0), Ok(29));
     assert_eq!(memory.lookup(&[4, 5, 6, 7]), Ok(Some(8)));
     assert_eq!(memory.lookup(&[4, 5, 8]), Ok(Some(9)));
     assert_eq!(memory.neighbours(3, PLENTY), Ok(vec![1]));
     assert_eq!(memory.remove(1), Ok(()));
-    assert_eq!(memory.sibling(3, 5), Ok(29));
+    assert_eq!(memory.next(3, 5), Ok(29));
     assert_eq!(memory.lookup(&[4, 5, 6, 7]), Ok(Some(29)));
     assert_eq!(memory.lookup(&[4, 5, 8]), Ok(None));
 }
@@ -147,7 +147,7 @@ fn a_wedge_between() {
         (4, 1, 12),
         (1, 2, 10),
     ] {
-        assert_eq!(memory.sibling(cell, facet), Ok(due), "{cell} {facet}");
+        assert_eq!(memory.next(cell, facet), Ok(due), "{cell} {facet}");
     }
     assert_eq!(memory.border(1, 2), Ok(true));
     assert_eq!(memory.neighbours(1, PLENTY), Ok(vec![0, 2, 3, 4]));
@@ -181,8 +181,8 @@ fn a_facet_of_a_solid_is_never_the_sibling_of_an_edge() {
             (3, PYRA, &[4, 5, 6, 7, 8]),
         ],
     );
-    assert_eq!(memory.cycle(1, 5, PLENTY), Ok(vec![13, 24]));
-    assert_eq!(memory.cycle(0, 0, PLENTY), Ok(vec![0, 16]));
+    assert_eq!(memory.ring(1, 5, PLENTY), Ok(vec![13, 24]));
+    assert_eq!(memory.ring(0, 0, PLENTY), Ok(vec![0, 16]));
     assert_eq!(memory.border(3, 1), Ok(true));
     assert_eq!(memory.neighbours(0, PLENTY), Ok(vec![2]));
     assert_eq!(memory.neighbours(1, PLENTY), Ok(vec![3]));
@@ -205,8 +205,8 @@ fn faces_with_one_set_in_crossed_order_are_siblings() {
             (2, PYRA, &[7, 4, 6, 5, 8]),
         ],
     );
-    assert_eq!(memory.cycle(0, 5, PLENTY), Ok(vec![5, 8, 16]));
-    assert_eq!(memory.sibling(2, 0), Ok(5));
+    assert_eq!(memory.ring(0, 5, PLENTY), Ok(vec![5, 8, 16]));
+    assert_eq!(memory.next(2, 0), Ok(5));
     assert_eq!(memory.neighbours(1, PLENTY), Ok(vec![0, 2]));
 }
 

@@ -47,6 +47,7 @@ static const uint32_t third[] = {
 
 static uint32_t mesh[WORDS];
 static uint32_t list[PLACES];
+static uint32_t ways[PLACES];
 
 static void say_number(uint32_t number)
 {
@@ -120,17 +121,22 @@ static void lookup(const uint32_t *set, size_t n)
 static void half_facet(uint32_t cell, uint32_t facet)
 {
     uint32_t half = UNWRITTEN;
+    uint32_t way = UNWRITTEN;
     uint32_t yes = UNWRITTEN;
     uint32_t count = UNWRITTEN;
-    uint8_t refusal = mk_sibling(mesh, WORDS, cell, facet, &half);
+    uint8_t refusal = mk_sibling(mesh, WORDS, cell, facet, &half, &way);
     printf("sibling %u %u: %u;", cell, facet, refusal);
     say_number(half);
+    printf(";");
+    say_number(way);
     refusal = mk_border(mesh, WORDS, cell, facet, &yes);
     printf("\nborder %u %u: %u;", cell, facet, refusal);
     say_number(yes);
-    refusal = mk_cycle(mesh, WORDS, cell, facet, list, PLACES, &count);
+    refusal = mk_cycle(mesh, WORDS, cell, facet, list, PLACES, ways, PLACES, &count);
     printf("\ncycle %u %u", cell, facet);
     say_list(refusal, list, count);
+    printf("ways %u %u", cell, facet);
+    say_list(refusal, ways, count);
 }
 
 static void one_cell(uint32_t cell)

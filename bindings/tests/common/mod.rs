@@ -143,9 +143,11 @@ impl Question {
             Question::Type(c) => ours(mesh.type_of(Cell(c)), one),
             Question::Marks(c) => ours(mesh.marks_of(Cell(c)), plain),
             Question::Neighbours(c) => listed(762, |out| mesh.neighbours_into(Cell(c), out)),
-            Question::Sibling(c, facet) => ours(mesh.sibling(Cell(c), facet), |half| one(half.0)),
+            Question::Sibling(c, facet) => ours(mesh.sibling(Cell(c), facet), |it| {
+                vec![it.0 .0, it.1.into()]
+            }),
             Question::Border(c, facet) => ours(mesh.border(Cell(c), facet), yes),
-            Question::Cycle(c, facet) => listed(128, |out| mesh.cycle_into(Cell(c), facet, out)),
+            Question::Cycle(c, facet) => cycled(mesh, Cell(c), facet),
             Question::Star(d, v) => listed(128, |out| mesh.star_into(d, Mark(v), out)),
             Question::Anchors(d, v) => listed(128, |out| mesh.anchors_into(d, Mark(v), out)),
             Question::FirstAnchor(d, v) => ours(mesh.first_anchor(d, Mark(v)), perhaps),
@@ -170,11 +172,19 @@ impl Question {
                 Err(refusal) => (refusal.number(), Vec::new()),
             },
             Question::Neighbours(cell) => theirs(memory.neighbours(cell, PLENTY), |list| list),
-            Question::Sibling(cell, facet) => theirs(memory.sibling(cell, facet), one),
+            Question::Sibling(cell, facet) => {
+                theirs(memory.sibling(cell, facet), |it| vec![it.0, it.1.number()])
+            }
             Question::Border(cell, facet) => {
                 theirs(memory.border(cell, facet), |yes| vec![u32::from(yes)])
             }
-            Question::Cycle(cell, facet) => theirs(memory.cycle(cell, facet, PLENTY), |list| list),
+            Question::Cycle(cell, facet) => {
+                let cycle = memory.cycle(cell, facet, PLENTY, PLENTY);
+                theirs(cycle, |list| {
+                    let halves = list.iter().map(|it| it.0);
+                    halves.chain(list.iter().map(|it| it.1.number())).collect()
+                })
+            }
             Question::Star(dimension, mark) => {
                 theirs(memory.star(dimension, mark, PLENTY), |list| list)
             }
@@ -189,6 +199,19 @@ impl Question {
             Question::Count(code) => theirs(memory.count_of_type(code), |count| vec![count as u32]),
         }
     }
+}
+
+/// A cycle and then its ways, which have an output between sentinels too.
+fn cycled<W: AsRef<[u32]>>(mesh: &Mesh<W>, cell: Cell, facet: u32) -> Said {
+    let mut ways = [SENTINEL; 130];
+    let (number, mut numbers) = listed(128, |out| {
+        mesh.cycle_into(cell, facet, out, &mut ways[1..129])
+    });
+    let count = numbers.len();
+    let rest = ways[..1].iter().chain(&ways[1 + count..]);
+    assert!(rest.into_iter().all(|&word| word == SENTINEL));
+    numbers.extend(&ways[1..1 + count]);
+    (number, numbers)
 }
 
 /// The map that the records of well-formed memory tell (docs/LAYOUT.md).

@@ -10,11 +10,13 @@ use Rattle.numbers.specs.declared.Half.{Half}
 use Rattle.numbers.specs.Half.{cut, halfOf}
 use Rattle.numbers.specs.declared.Caps.{Caps}
 use Rattle.store.specs.declared.Opened.the-variants.{Mesh, Nothing}
-use Rattle.store.specs.Fields.{Count, Anchor, Sib}
-use Rattle.store.specs.Slots.{InHead, InMark, InCell, read, codeIn}
+use Rattle.store.specs.Fields.{Count, Anchor}
+use Rattle.store.specs.Slots.{InHead, InMark, read, codeIn, siblingIn, wayIn}
 use Rattle.store.specs.Open.{opened}
 use Rattle.map.specs.Cells.{Map, cellsOf}
 use Rattle.map.specs.Siblings.{sibling, border}
+use Rattle.map.specs.declared.Way.{Way}
+use Rattle.map.specs.Ways.{wayNumber, way}
 use Rattle.map.specs.Stars.{anchors}
 use Rattle.map.specs.Answers.{answer, cellChecks, halfChecks, starChecks, typeChecks, typeAnswer, siblingAnswer, borderAnswer, firstAnchorAnswer, countAnswer, editionAnswer, stepAnswer}
 use Rattle.map.specs.Says.{given, refused, valueSays, halfSays, truthSays, foundSays}
@@ -42,7 +44,7 @@ use Rattle.ask.specs.Asked.{Asked}
 use Rattle.ask.specs.Steps.{stepSays}
 use Rattle.ask.specs.Refusals.{noValue, noHalf, noTruth, noFound, noStep}
 use Rattle.ask.proofs.Asks.{asked-refused, asked-given}
-use Rattle.ask.proofs.Words.{half-is, uncut-is, sibling-is, anchor-is, count-is}
+use Rattle.ask.proofs.Words.{half-is, uncut-is, sibling-is, way-is, anchor-is, count-is}
 
 -- a first as number + 1
 next-none : (l : List ℕ) → next l ≡ 0 → take 1 l ≡ []
@@ -66,7 +68,7 @@ module _ (w : List ℕ) (c f : ℕ) where
   pub sibling-refused : (opening : Opening) → Opens w (λ m. halfChecks m c f) opening → (why : Refusal) → opening ≡ Opening′.Refused why
       → Asked halfSays noHalf w (λ m. siblingAnswer m c f) (HalfAt′.Refused why)
   unfolding siblingAnswer halfSays
-  sibling-refused = asked-refused halfSays w (λ m. halfChecks m c f) (λ m. sibling m (halfOf c f) ∷ []) HalfAt′.Refused (λ why. refl)
+  sibling-refused = asked-refused halfSays w (λ m. halfChecks m c f) (λ m. sibling m (halfOf c f) ∷ wayNumber (way m (halfOf c f)) ∷ []) HalfAt′.Refused (λ why. refl)
 
   pub border-refused : (opening : Opening) → Opens w (λ m. halfChecks m c f) opening → (why : Refusal) → opening ≡ Opening′.Refused why
       → Asked truthSays noTruth w (λ m. borderAnswer m c f) (Truth.Refused why)
@@ -108,7 +110,7 @@ module _ (w : List ℕ) (caps : Caps) (opens : Mesh caps ≡ opened w) (verdict 
         ap (λ (n : ℕ). given (n ∷ [])) (word ∙ code-of caps m e w wf c below))
 
   module _ (c f : ℕ) (checked : Checked w caps (λ m. halfChecks m c f) verdict) where
-    module _ (v : verdict ≡ Accepted) (y : ℕ) (half : y ≡ halfOf (cut c) (f % 8)) (h : Half) (word : h .0 ≡ read w caps (InCell (y / 8) (Sib (y % 8)))) where
+    module _ (v : verdict ≡ Accepted) (y : ℕ) (half : y ≡ halfOf (cut c) (f % 8)) (h : Half) (word : h .0 ≡ siblingIn w caps y) where
       -- the half-facet that was asked for
       place : (m : Map) (e : m .caps ≡ caps) (wf : Wf w m) → y ≡ halfOf c f
       place m e wf =
@@ -118,13 +120,17 @@ module _ (w : List ℕ) (caps : Caps) (opens : Mesh caps ≡ opened w) (verdict 
       led : (m : Map) (e : m .caps ≡ caps) (wf : Wf w m) → h .0 ≡ sibling m (halfOf c f)
       led m e wf =
           let p = half-passed w caps verdict v m e wf c f checked in
-          word ∙ (ap (λ (k : ℕ). read w caps (InCell (k / 8) (Sib (k % 8)))) (place m e wf) ∙ sibling-is w caps m e wf c f (p .0) (p .2))
+          word ∙ (ap (siblingIn w caps) (place m e wf) ∙ sibling-is w caps m e wf c f (p .0) (p .2))
 
-      pub sibling-given : Asked halfSays noHalf w (λ m. siblingAnswer m c f) (HalfAt′.At h)
+      pub sibling-given : (x : Way) → x ≡ wayIn w caps y → Asked halfSays noHalf w (λ m. siblingAnswer m c f) (HalfAt′.At h x)
       unfolding siblingAnswer halfSays
-      sibling-given =
-          asked-given halfSays w (λ m. halfChecks m c f) (λ m. sibling m (halfOf c f) ∷ []) noHalf caps opens (HalfAt′.At h) verdict checked v
-          (λ m. half-numbered m c f) (λ m e wf. ap (λ (n : ℕ). given (n ∷ [])) (led m e wf))
+      sibling-given x told =
+          asked-given halfSays w (λ m. halfChecks m c f) (λ m. sibling m (halfOf c f) ∷ wayNumber (way m (halfOf c f)) ∷ []) noHalf caps opens
+          (HalfAt′.At h x) verdict checked v (λ m. half-numbered m c f)
+          (λ m e wf.
+          let p = half-passed w caps verdict v m e wf c f checked in
+          let ran : x ≡ way m (halfOf c f) = told ∙ (ap (wayIn w caps) (place m e wf) ∙ way-is w caps m e wf c f (p .0) (p .2)) in
+          rw (led m e wf, ran))
 
       -- its own sibling: a border
       pub border-yes : h .0 ≡ y → Asked truthSays noTruth w (λ m. borderAnswer m c f) Truth.Yes
@@ -190,12 +196,12 @@ module _ (w : List ℕ) (h c f : ℕ) (r : HalfAt) (cell : c ≡ h / 8) (facet :
     answers = λ m wf. ap halfSays (sym q) ∙ (asked .answers m wf ∙ same-place m);
   }
 
-  pub step-next : (k : Half) → r ≡ HalfAt′.At k → Asked stepSays noStep w (λ m. stepAnswer m h) (Step.Next (record { 0 = k }))
+  pub step-next : (k : Half) (x : Way) → r ≡ HalfAt′.At k x → Asked stepSays noStep w (λ m. stepAnswer m h) (Step.Next (record { 0 = k }) x)
   unfolding stepSays halfSays
-  step-next k q = record {
-    refused = λ no. absurd (never k (sym q ∙ asked .refused no));
+  step-next k x q = record {
+    refused = λ no. absurd (never k x (sym q ∙ asked .refused no));
     answers = λ m wf. ap halfSays (sym q) ∙ (asked .answers m wf ∙ same-place m);
   }
     where
-      never : (k : Half) → HalfAt′.At k ≡ HalfAt′.Refused NotMesh → ⊥
-      never k e = let z : _≡_ {A = ℕ} 0 1 = cc in omega arith
+      never : (k : Half) (x : Way) → HalfAt′.At k x ≡ HalfAt′.Refused NotMesh → ⊥
+      never k x e = let z : _≡_ {A = ℕ} 0 1 = cc in omega arith

@@ -10,11 +10,11 @@ use Rattle.ask.specs.Steps.{stepSays}
 
 -- a step tells what the sibling's query does
 asHalf : Step → HalfAt
-asHalf (Step′.Next w) = HalfAt′.At (w .0)
+asHalf (Step′.Next w way) = HalfAt′.At (w .0) way
 asHalf (Step′.Refused r) = HalfAt′.Refused r
 
 asStep : HalfAt → Step
-asStep (HalfAt′.At h) = Step′.Next (record { 0 = h })
+asStep (HalfAt′.At h way) = Step′.Next (record { 0 = h }) way
 asStep (HalfAt′.Refused r) = Step′.Refused r
 
 pub step-one : (x y : Step) → stepSays x ≡ stepSays y → x ≡ y
@@ -22,9 +22,9 @@ unfolding asHalf asStep stepSays halfSays
 step-one x y e = sym (again x) ∙ (ap asStep (half-one (asHalf x) (asHalf y) (sym (says x) ∙ (e ∙ says y))) ∙ again y)
   where
     again : (x : Step) → asStep (asHalf x) ≡ x
-    again (Step′.Next w) = refl
+    again (Step′.Next w way) = refl
     again (Step′.Refused r) = refl
 
     says : (x : Step) → stepSays x ≡ halfSays (asHalf x)
-    says (Step′.Next w) = refl
+    says (Step′.Next w way) = refl
     says (Step′.Refused r) = refl

@@ -10,16 +10,17 @@ use Rattle.shapes.proofs.Facts.{facts}
 use Rattle.shapes.proofs.Types.{type-code}
 use Rattle.shapes.specs.Shapes.{shape, facetCount}
 use Rattle.numbers.specs.declared.Caps.{Caps}
-use Rattle.store.specs.Fields.{Count, Anchor, Sib}
-use Rattle.store.specs.Slots.{InHead, InMark, InCell, read}
+use Rattle.store.specs.Fields.{Count, Anchor}
+use Rattle.store.specs.Slots.{InHead, InMark, read, siblingIn, wayIn}
 use Rattle.map.specs.Cells.{Map, facetsAt, cellsOf}
 use Rattle.map.specs.Siblings.{Half, sibling}
+use Rattle.map.specs.Ways.{way}
 use Rattle.map.specs.Stars.{anchors}
 use Rattle.laws.proofs.Anchors.{half-facet}
 use Rattle.laws.proofs.Halves.{half-live}
 use Rattle.picture.specs.State.{next, stateOf}
 use Rattle.picture.specs.Picture.{Wf}
-use Rattle.picture.proofs.Record.{count-read, anchor-read, sib-read}
+use Rattle.picture.proofs.Record.{count-read, anchor-read, sib-read, way-read}
 use Rattle.picture.proofs.Settles.{wf-pic}
 use Rattle.checks.proofs.Rows.{marks-of, cells-of}
 use Rattle.shapes.specs.Sizes.{mostFacets}
@@ -43,13 +44,20 @@ module _ (w : List ℕ) (caps : Caps) (m : Map) (e : m .caps ≡ caps) (wf : Wf 
     pub uncut-is : halfOf (cut c) (f % 8) ≡ halfOf c f
     uncut-is = half-uncut c f (omega (arith, wf .picture .cells)) (omega (arith, facet-few))
 
-    -- the word of a half-facet is its sibling
-    pub sibling-is : read w caps (InCell (halfOf c f / 8) (Sib (halfOf c f % 8))) ≡ sibling m (halfOf c f)
+    -- the word of a half-facet tells its sibling and the way that it runs
+    cell-below : halfOf c f / 8 < caps .cells
+    cell-below = omega (arith, half-cell c f (omega (arith, facet-few)), cells-of caps m e)
+
+    facet-low : halfOf c f % 8 < mostFacets
+    facet-low = omega (arith, facet-part c f (omega (arith, facet-few)), facet-few)
+
+    pub sibling-is : siblingIn w caps (halfOf c f) ≡ sibling m (halfOf c f)
     unfolding stateOf
-    sibling-is =
-        sib-read w caps (stateOf m) (wf-pic w caps m e wf) (halfOf c f)
-        (omega (arith, half-cell c f (omega (arith, facet-few)), cells-of caps m e)) (omega (arith, facet-part c f (omega (arith, facet-few)), facet-few))
-        ∙ rw (half-is .facet)
+    sibling-is = sib-read w caps (stateOf m) (wf-pic w caps m e wf) (halfOf c f) cell-below facet-low ∙ rw (half-is .facet)
+
+    pub way-is : wayIn w caps (halfOf c f) ≡ way m (halfOf c f)
+    unfolding stateOf
+    way-is = way-read w caps (stateOf m) (wf-pic w caps m e wf) (halfOf c f) cell-below facet-low ∙ rw (half-is .facet)
 
   -- the word of a mark is its first anchor
   pub anchor-is : (d v : ℕ) → 1 ≤ d → d ≤ 3 → v < m .caps .marks → read w caps (InMark v (Anchor d)) ≡ next (anchors m d v)

@@ -19,6 +19,7 @@ use map::HalfAt;
 use map::Refusal;
 use map::Truth;
 use map::Value;
+use map::Way;
 use numbers::Cell;
 use numbers::Half;
 use numbers::Mark;
@@ -31,6 +32,7 @@ use store::code_of;
 use store::count_of;
 use store::open;
 use store::sibling_of;
+use store::way_of;
 use words::part;
 
 // The type of a cell.
@@ -53,13 +55,16 @@ pub fn marks_of(w: &[u32], c: Cell) -> &[u32]
     }
 }
 
-// The sibling of a half-facet.
+// The sibling of a half-facet, and the way that it runs.
 pub fn sibling(w: &[u32], c: Cell, f: u32) -> HalfAt
     ensures { λ r. ⌜ Asked halfSays noHalf (now (w .entry)) (λ m. siblingAnswer m (c .0) f) r ⌝ }
 {
     match about_half(w, c, f) {
         Opening::Refused(why) => HalfAt::Refused(why),
-        Opening::Open(caps) => HalfAt::At(sibling_of(w, caps, half_of(c, f))),
+        Opening::Open(caps) => {
+            let half = half_of(c, f);
+            HalfAt::At(sibling_of(w, caps, half), way_of(w, caps, half))
+        }
     }
 }
 
@@ -118,9 +123,9 @@ pub fn edition(w: &[u32]) -> Value
 // A walker over one sibling cycle: its place.
 pub struct Walker(pub Half);
 
-// A walker's step: the walker at the next place, or why there is none.
+// A walker's step: the walker at the next place and the way that this runs beside the last, or why there is none.
 pub enum Step {
-    Next(Walker),
+    Next(Walker, Way),
     Refused(Refusal),
 }
 
@@ -131,7 +136,7 @@ impl Walker {
     {
         match sibling(w, cell_of(self.0), facet_of(self.0)) {
             HalfAt::Refused(why) => Step::Refused(why),
-            HalfAt::At(next) => Step::Next(Walker(next)),
+            HalfAt::At(next, way) => Step::Next(Walker(next), way),
         }
     }
 }

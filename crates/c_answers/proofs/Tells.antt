@@ -13,7 +13,7 @@ use Rattle.map.specs.declared.Verdict.the-variants as Verdict′
 use Rattle.map.specs.declared.Built.{Built}
 use Rattle.map.specs.declared.Built.the-variants as Built′
 use Rattle.map.proofs.Refusals.{number-some}
-use Rattle.c_answers.specs.Told.{Told, ToldFound}
+use Rattle.c_answers.specs.Told.{Told, ToldTwo, ToldFound}
 
 module _ (a : Answer) (x : ℕ) where
   pub told-refused : (why : Refusal) (r : ℕ) → a ≡ refused why → r ≡ numberOf why → Told a x r x
@@ -27,6 +27,16 @@ module _ (a : Answer) (x : ℕ) where
   pub told-given : (n : ℕ) → a ≡ given (n ∷ []) → Told a x 0 n
   unfolding given first
   told-given n e = record { number = rw e; value = rw e }
+
+  -- with a second value
+  module _ (y : ℕ) where
+    pub two-refused : (why : Refusal) (r : ℕ) → a ≡ refused why → r ≡ numberOf why → ToldTwo a x y r x y
+    unfolding refused
+    two-refused why r e q = record { told = told-refused why r e q; second = rw e }
+
+    pub two-given : (n k k′ : ℕ) → a ≡ given (n ∷ k ∷ []) → k′ ≡ k → ToldTwo a x y 0 n k′
+    unfolding given first
+    two-given n k k′ e q = record { told = record { number = rw e; value = rw e }; second = rw e q }
 
   -- with how many there are
   module _ (y : ℕ) where

@@ -5,7 +5,7 @@
 // the place of its record; every other answer has one only where it is accepted.
 ghost use mathlib.Core.Path.{_≡_};
 ghost use Rattle.map.specs.Says.{numberOf, verdictSays, valueSays, halfSays, truthSays, builtSays, foundSays};
-ghost use Rattle.c_answers.specs.Told.{Told, ToldFound};
+ghost use Rattle.c_answers.specs.Told.{Told, ToldTwo, ToldFound};
 use map::Built;
 use map::Found;
 use map::HalfAt;
@@ -14,6 +14,7 @@ use map::Truth;
 use map::Value;
 use map::Verdict;
 use map::number_of;
+use map::way_number;
 
 // The number of a refusal in a byte.
 pub fn byte_of(why: Refusal) -> u8
@@ -45,14 +46,15 @@ pub fn tell_value(v: Value, x: &mut u32) -> u8
     }
 }
 
-// A half-facet.
-pub fn tell_half(h: HalfAt, x: &mut u32) -> u8
-    ensures { λ r. ⌜ Told (halfSays h) (now (x .entry)) r (now (x .exit)) ⌝ }
+// A half-facet, and the way that it runs.
+pub fn tell_half(h: HalfAt, x: &mut u32, y: &mut u32) -> u8
+    ensures { λ r. ⌜ ToldTwo (halfSays h) (now (x .entry)) (now (y .entry)) r (now (x .exit)) (now (y .exit)) ⌝ }
 {
     match h {
         HalfAt::Refused(why) => byte_of(why),
-        HalfAt::At(half) => {
+        HalfAt::At(half, way) => {
             *x = half.0;
+            *y = way_number(way);
             0
         }
     }

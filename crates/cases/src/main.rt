@@ -28,11 +28,14 @@ use map::Refusal;
 use map::Truth;
 use map::Value;
 use map::Verdict;
+use map::Way;
 use map::number_of;
+use map::way_number;
 use mesh::insert;
 use mesh::remove;
 use numbers::Cell;
 use numbers::FIRST_EDITION;
+use numbers::Half;
 use numbers::Mark;
 use numbers::SECOND_EDITION;
 use numbers::half_of;
@@ -48,8 +51,9 @@ const CELLS: u32 = 4;
 // How many cases there are. P1 to P12 are the outline's. R13 on are runs besides: a cell that comes back; quads with a triangle and a
 // bar; a mesh emptied again; a record cut short; edits that are all refused; request 3's two quads that only look joined, and two that
 // share two edges; a pyramid with a tetrahedron and a quad on its faces; R26 and R27, under edition 2, an edge with many faces and a build
-// refused at the third solid on a face. R21 to R25 have no records.
-const CASES: usize = 27;
+// refused at the third solid on a face; R31 to R33 siblings that run every way, at bar ends, edges and faces of three marks. R21 to R25 and
+// R28 to R30 have no records.
+const CASES: usize = 33;
 
 // How many words the records of each case have, and the records, padded with 0.
 const SIZES: [u32; CASES] = [
@@ -78,6 +82,12 @@ const SIZES: [u32; CASES] = [
     0,
     0,
     0,
+    15,
+    19,
+    0,
+    0,
+    0,
+    12,
     15,
     19,
 ];
@@ -110,15 +120,21 @@ const BUILT: [[u32; 20]; CASES] = [
     [0, 0, 0, 0, 0, 0, 0, 0, 0, 0, 0, 0, 0, 0, 0, 0, 0, 0, 0, 0],
     [0, 2, 0, 1, 2, 1, 2, 0, 1, 3, 2, 2, 0, 1, 4, 0, 0, 0, 0, 0],
     [0, 4, 0, 1, 2, 3, 1, 4, 0, 2, 1, 4, 2, 5, 0, 1, 3, 4, 2, 0],
+    [0, 0, 0, 0, 0, 0, 0, 0, 0, 0, 0, 0, 0, 0, 0, 0, 0, 0, 0, 0],
+    [0, 0, 0, 0, 0, 0, 0, 0, 0, 0, 0, 0, 0, 0, 0, 0, 0, 0, 0, 0],
+    [0, 0, 0, 0, 0, 0, 0, 0, 0, 0, 0, 0, 0, 0, 0, 0, 0, 0, 0, 0],
+    [0, 1, 0, 1, 1, 1, 0, 2, 2, 1, 3, 0, 0, 0, 0, 0, 0, 0, 0, 0],
+    [0, 2, 0, 1, 2, 1, 2, 3, 0, 1, 2, 2, 1, 0, 4, 0, 0, 0, 0, 0],
+    [0, 4, 0, 1, 2, 3, 1, 4, 1, 2, 0, 4, 2, 5, 0, 1, 4, 3, 2, 0],
 ];
 
 // Cases with more marks, behind those, made by inserts: a brick on a brick; a wedge between a brick and a pyramid, a tetrahedron on its
 // end; faces in crossed order; the wedge taken away; under edition 2, a third solid on a face in crossed order, on a triangle and on a quad,
-// refused and, after a removal, accepted.
+// refused and, after a removal, accepted; faces of four marks that run every way.
 const SOLID_MARKS: u32 = 12;
 
 // The edits after the builds, in order: case, 1 for an insert and 0 for a removal, cell, type, how many marks, the marks.
-const EDITS: usize = 50;
+const EDITS: usize = 56;
 
 const EDITED: [[u32; 13]; EDITS] = [
     [9, 0, 1, 0, 0, 0, 0, 0, 0, 0, 0, 0, 0],
@@ -171,6 +187,12 @@ const EDITED: [[u32; 13]; EDITS] = [
     [30, 0, 0, 0, 0, 0, 0, 0, 0, 0, 0, 0, 0],
     [30, 1, 2, 5, 5, 6, 1, 5, 2, 10, 0, 0, 0],
     [30, 1, 0, 7, 8, 0, 1, 2, 3, 4, 5, 6, 7],
+    [32, 0, 1, 0, 0, 0, 0, 0, 0, 0, 0, 0, 0],
+    [32, 1, 1, 2, 3, 3, 1, 0, 0, 0, 0, 0, 0],
+    [34, 1, 0, 7, 8, 0, 1, 2, 3, 4, 5, 6, 7],
+    [34, 1, 1, 5, 5, 7, 6, 5, 4, 8, 0, 0, 0],
+    [34, 1, 2, 5, 5, 7, 4, 6, 5, 9, 0, 0, 0],
+    [34, 1, 3, 7, 8, 4, 5, 6, 7, 8, 9, 10, 11],
 ];
 
 fn size(p: u32) -> u32 {
@@ -269,10 +291,28 @@ fn say_list(v: Value, list: &[u32]) {
     }
 }
 
+fn say_way(h: Half, way: Way) {
+    say_number(h.0);
+    say(b" way");
+    say_number(way_number(way));
+}
+
 fn say_half(h: HalfAt) {
     match h {
-        HalfAt::At(x) => say_number(x.0),
+        HalfAt::At(x, way) => say_way(x, way),
         HalfAt::Refused(why) => say_refusal(why),
+    }
+}
+
+// A cycle, and the ways beside it.
+fn say_cycle(v: Value, list: &[u32], ways: &[u32]) {
+    match v {
+        Value::Is(n) => {
+            say_numbers(list, n as usize);
+            say(b", ways");
+            say_numbers(ways, n as usize);
+        }
+        Value::Refused(why) => say_refusal(why),
     }
 }
 
@@ -298,10 +338,7 @@ fn say_truth(t: Truth) {
 
 fn say_step(s: Step) {
     match s {
-        Step::Next(at) => {
-            let h = at.0;
-            say_number(h.0);
-        }
+        Step::Next(at, way) => say_way(at.0, way),
         Step::Refused(why) => say_refusal(why),
     }
 }
@@ -333,8 +370,9 @@ fn about_half(w: &[u32], p: u32, c: Cell, f: u32) {
     say_truth(border(w, c, f));
     say(b", cycle");
     let mut out = [0u32; 128];
-    let n = cycle(w, c, f, &mut out);
-    say_list(n, &out);
+    let mut ways = [0u32; 128];
+    let n = cycle(w, c, f, &mut out, &mut ways);
+    say_cycle(n, &out, &ways);
     say(b", step");
     say_step(Walker(half_of(c, f)).step(w));
     say(b"\n");
@@ -648,6 +686,14 @@ fn one_edition(marks: u32, cells: u32, e: u32) {
     try_edition(&mut w, marks, cells, e);
 }
 
+// Siblings that run every way.
+fn every_way() {
+    one_case(31, FIRST_EDITION);
+    one_case(32, FIRST_EDITION);
+    one_case(33, FIRST_EDITION);
+    solids(34, FIRST_EDITION);
+}
+
 // "6 for another edition, before 1 and like it"
 fn editions() {
     one_edition(MARKS, CELLS, 0);
@@ -680,11 +726,6 @@ fn lists_in(w: &[u32], out: &mut [u32]) {
     say(b":");
     let stars = star(w, 1, Mark(0), out);
     say_list(stars, out);
-    say(b"\nbound cycle");
-    say_size(out.len());
-    say(b":");
-    let ring = cycle(w, Cell(7), 0, out);
-    say_list(ring, out);
     say(b"\nbound neighbours");
     say_size(out.len());
     say(b":");
@@ -718,10 +759,37 @@ fn lists_cut(w: &[u32], out: &mut [u32], cut: usize) {
     }
 }
 
+// The cycle and the ways beside it, each into an output of its own.
+fn ring_in(w: &[u32], out: &mut [u32], ways: &mut [u32]) {
+    say(b"bound cycle");
+    say_size(out.len());
+    say_size(ways.len());
+    say(b":");
+    let ring = cycle(w, Cell(7), 0, out, ways);
+    say_cycle(ring, out, ways);
+    say(b"\n");
+}
+
+fn ring_cut(w: &[u32], out: &mut [u32], ways: &mut [u32], cut: usize, short: usize) {
+    if cut <= out.len() {
+        if short <= ways.len() {
+            ring_in(w, &mut out[cut..], &mut ways[short..]);
+        }
+    }
+}
+
+// The cycle into an output of 128 places cut by some, and the ways into one cut by as many or by others.
+fn ring(w: &[u32], cut: usize, short: usize) {
+    let mut out = [0u32; 128];
+    let mut ways = [0u32; 128];
+    ring_cut(w, &mut out, &mut ways, cut, short);
+}
+
 // Lists into an output of 128 places, cut by some.
 fn lists(w: &[u32], cut: usize) {
     let mut out = [0u32; 128];
     lists_cut(w, &mut out, cut);
+    ring(w, cut, cut);
 }
 
 fn try_bars(w: &mut [u32]) {
@@ -737,6 +805,8 @@ fn fill_mark(w: &mut [u32]) {
     lists(w, 2);
     lists(w, 1);
     lists(w, 0);
+    ring(w, 1, 0);
+    ring(w, 0, 1);
 }
 
 fn refill_mark(w: &mut [u32]) {
@@ -764,6 +834,7 @@ fn main() {
     solids(24, FIRST_EDITION);
     no_mesh();
     limited();
+    every_way();
     formats();
     editions();
     full_mark();

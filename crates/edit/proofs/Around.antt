@@ -2,7 +2,7 @@
 use mathlib.Core.Path.{_≡_, refl, sym, ap, _∙_, subst, fun-ext}
 use mathlib.Core.Bool.{Bool, true, false, cond, _&&_}
 use mathlib.Core.List.{List, []}
-use Prim.Native.Nat.{ℕ, _/_, _%_, _<_, _≤_}
+use Prim.Native.Nat.{ℕ, _+_, _*_, _/_, _%_, _<_, _≤_}
 use native.Mathlib.Decide.{ℕ-discrete}
 use native.Mathlib.Omega.{arith}
 use borrow.Author.Tests.{eq-eqb, ne-eqb, eqb-true, eqb-false, ltb-true, le-ltb}
@@ -19,12 +19,15 @@ use Rattle.shapes.specs.Table.{table}
 use Rattle.numbers.specs.declared.Caps.{Caps}
 use Rattle.map.specs.Cells.{Body, Map, holds, facetsAt, cellsOf}
 use Rattle.map.specs.Siblings.{isHalf, marksOf, sibling}
+use Rattle.map.specs.declared.Way.the-variants.{Lone}
+use Rattle.map.specs.Ways.{wayNumber, way}
 use Rattle.map.specs.Sound.{Sound, TwoSolids}
 use Rattle.laws.proofs.Local.{Apart, Free, OneMore, half-other, sibling-other, anchors-free, more-free, apart-back}
 use Rattle.laws.proofs.Counted.{more-type-other}
-use Rattle.laws.proofs.Halves.{none-facets}
+use Rattle.laws.proofs.Halves.{none-facets, half-live}
+use Rattle.laws.proofs.Ways.{way-other}
 use Rattle.picture.specs.State.{State, next, mapWith, stateOf}
-use Rattle.picture.specs.Picture.{Pic, Wf}
+use Rattle.picture.specs.Picture.{Pic, Wf, sibWord}
 use Rattle.picture.specs.Changes.{withCount}
 use Rattle.picture.proofs.Alike.{retold, pic-retold, state-same}
 use Rattle.laws.proofs.Facets.{facets-count}
@@ -97,19 +100,19 @@ links-hold m m′ c marks on a free held s chains v k = go (eqb c k) refl (has v
 -- the state of m, with the cells and chains of m′ and no sibling of the cell
 pub record Around (caps : Caps) (m : Map) (c : ℕ) (s : State) : Type 0 where
   pub chains : (v k : ℕ) → s .chain v k ≡ holds (mapWith caps s) v k
-  pub own : (h : ℕ) → h / 8 ≡ c → s .sib h ≡ 0
-  pub other : (h : ℕ) → (h / 8 ≡ c → ⊥) → s .sib h ≡ stateOf m .sib h
+  pub own : (h : ℕ) → h / 8 ≡ c → sibWord s h ≡ 0
+  pub other : (h : ℕ) → (h / 8 ≡ c → ⊥) → sibWord s h ≡ sibWord (stateOf m) h
   pub ancs : (d v : ℕ) → s .anc d v ≡ stateOf m .anc d v
   pub counts : (u : ℕ) → s .count u ≡ stateOf m .count u
 
 -- what is no half-facet has no sibling: a cell with no facets has none, and no cell has more than six
 module _ (m : Map) (h : ℕ) where
-  pub no-sib : facetsAt m (h / 8) ≡ [] → stateOf m .sib h ≡ 0
-  unfolding stateOf isHalf
+  pub no-sib : facetsAt m (h / 8) ≡ [] → sibWord (stateOf m) h ≡ 0
+  unfolding stateOf isHalf wayNumber
   no-sib e = rw (e, le-ltb (h % 8) 0 (omega arith))
 
-  pub past-sib : mostFacets ≤ h % 8 → stateOf m .sib h ≡ 0
-  unfolding stateOf isHalf
+  pub past-sib : mostFacets ≤ h % 8 → sibWord (stateOf m) h ≡ 0
+  unfolding stateOf isHalf wayNumber
   past-sib l =
       rw (le-ltb (h % 8) (length (facetsAt m (h / 8))) (omega (arith, facets-count m (h / 8), facts (m .at (h / 8) .code) .facets)))
 
@@ -120,8 +123,8 @@ module _ (m m′ : Map) (c t : ℕ) (marks : List ℕ) (r : Turn m m′ c t mark
   out-of-sets half = rw half at e
 
   -- so it is no half-facet of the cell
-  not-own : h / 8 ≡ c → stateOf m′ .sib h ≡ 0
-  unfolding stateOf isHalf marksOf
+  not-own : h / 8 ≡ c → sibWord (stateOf m′) h ≡ 0
+  unfolding stateOf isHalf marksOf wayNumber
   not-own q = rw (not-true-false (isHalf m′ h) (λ half. clash (there half) (r .facets _ (out-of-sets half) .1)))
     where
       there : isHalf m′ h ≡ true → any (sameSet (marksOf m′ h)) (facetsAt m′ c) ≡ true
@@ -129,18 +132,21 @@ module _ (m m′ : Map) (c t : ℕ) (marks : List ℕ) (r : Turn m m′ c t mark
           subst (λ (k : ℕ). any (sameSet (marksOf m′ h)) (facetsAt m′ k) ≡ true) q
           (at-any (sameSet (marksOf m′ h)) (facetsAt m′ (h / 8)) [] (h % 8) (ltb-true _ _ half) (same-refl (marksOf m′ h)))
 
-  -- and one of another cell keeps its sibling
-  kept-sib : (h / 8 ≡ c → ⊥) → stateOf m .sib h ≡ stateOf m′ .sib h
+  -- and one of another cell keeps its sibling, which runs the same way
+  kept-sib : (h / 8 ≡ c → ⊥) → sibWord (stateOf m) h ≡ sibWord (stateOf m′) h
   unfolding stateOf
   kept-sib n = rw (same .0) (go (isHalf m h) refl)
     where
       same : (isHalf m′ h ≡ isHalf m h) × (marksOf m′ h ≡ marksOf m h)
       same = half-other m m′ c (r .apart) h n
 
-      go : (b : Bool) → isHalf m h ≡ b → cond b (sibling m h) 0 ≡ cond b (sibling m′ h) 0
+      go : (b : Bool) → isHalf m h ≡ b
+          → 4 * cond b (sibling m h) 0 + wayNumber (cond b (way m h) Lone) ≡ 4 * cond b (sibling m′ h) 0 + wayNumber (cond b (way m′ h) Lone)
       go true q =
-          let none = r .facets _ (rw (same .1) at (out-of-sets (same .0 ∙ q))) in
-          sym (sibling-other m m′ c (r .apart) h n (none .0) (none .1) .0)
+          let half : isHalf m′ h ≡ true = same .0 ∙ q in
+          let none = r .facets _ (out-of-sets half) in
+          let back = apart-back m m′ c (r .apart) in
+          rw (sibling-other m′ m c back h n (none .1) (none .0) .0, way-other m′ m c back h n (half-live m′ (r .sound) h half) (none .1) (none .0))
       go false q = refl
 
 module _ (caps : Caps) (m : Map) (c t : ℕ) (marks : List ℕ) (s : State) (r : Turn m (mapWith caps s) c t marks) (a : Around caps m c s) where
@@ -155,7 +161,7 @@ module _ (caps : Caps) (m : Map) (c t : ℕ) (marks : List ℕ) (s : State) (r :
     ancs = λ d v e. a .ancs d v ∙ ap next (sym (anchors-free m (mapWith caps s) c (r .apart) v (r .free v e) d));
   }
     where
-      sib : (h : ℕ) → among (mapWith caps s) (setsOf t marks) h ≡ false → Dec (h / 8 ≡ c) → s .sib h ≡ stateOf (mapWith caps s) .sib h
+      sib : (h : ℕ) → among (mapWith caps s) (setsOf t marks) h ≡ false → Dec (h / 8 ≡ c) → sibWord s h ≡ sibWord (stateOf (mapWith caps s)) h
       sib h e (yes q) = a .own h q ∙ sym (not-own m (mapWith caps s) c t marks r h e q)
       sib h e (no n) = a .other h n ∙ kept-sib m (mapWith caps s) c t marks r h e n
 
@@ -178,10 +184,11 @@ module _ (caps : Caps) (m : Map) (c t : ℕ) (marks : List ℕ) (s : State) (r :
           go (no n) = rw (ne-eqb t u n) (a .counts u ∙ ap length (sym (r .others u lo (λ z. n (sym z)))))
 
       -- counts are stored for the codes of the table
-      counts : Pic w caps (retold counted (counted .sib) (counted .anc) (stateOf m′ .count))
+      counts : Pic w caps (retold counted (counted .sib) (counted .way) (counted .anc) (stateOf m′ .count))
       counts =
-          pic-retold caps counted (counted .sib) (counted .anc) (stateOf m′ .count) (λ d f h. refl) (λ d v h. refl) (λ u h. agree u (h .0) (h .1)) w p
+          pic-retold caps counted (counted .sib) (counted .way) (counted .anc) (stateOf m′ .count) (λ d f h. refl) (λ d v h. refl) (λ u h. agree u (h .0) (h .1)) w p
 
-      fields : retold counted (counted .sib) (counted .anc) (stateOf m′ .count) ≡ stateOf m′
+      fields : retold counted (counted .sib) (counted .way) (counted .anc) (stateOf m′ .count) ≡ stateOf m′
       fields =
-          state-same (retold counted (counted .sib) (counted .anc) (stateOf m′ .count)) (stateOf m′) refl (fun-ext (λ v. fun-ext (λ k. a .chains v k))) refl refl refl
+          state-same (retold counted (counted .sib) (counted .way) (counted .anc) (stateOf m′ .count)) (stateOf m′) refl
+          (fun-ext (λ v. fun-ext (λ k. a .chains v k))) refl refl refl refl

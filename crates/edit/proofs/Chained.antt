@@ -33,7 +33,7 @@ module _ (s : State) (c : ℕ) (on : Bool) where
   links-none : withLinks s c [] on ≡ s
   unfolding withLinks has
   links-none =
-      state-same (withLinks s c [] on) s refl (fun-ext (λ u. fun-ext (λ k. rw (and-false (eqb c k))))) refl refl refl
+      state-same (withLinks s c [] on) s refl (fun-ext (λ u. fun-ext (λ k. rw (and-false (eqb c k))))) refl refl refl refl
 
   one-more : (p q r : Bool) (x : Bool) → cond (p && q) on (cond (q && r) on x) ≡ cond (q && (r || p)) on x
   one-more true true true x = refl
@@ -50,7 +50,7 @@ module _ (s : State) (c : ℕ) (on : Bool) where
   links-one marks k l =
       state-same (withLink (withLinks s c (take k marks) on) (getD marks k 0) c on) (withLinks s c (take (k + 1) marks) on) refl
       (fun-ext (λ u. fun-ext (λ j. same u j)))
-      refl refl refl
+      refl refl refl refl
     where
       more : (u : ℕ) → has u (take (k + 1) marks) ≡ has u (take k marks) || eqb (getD marks k 0) u
       more u = rw (add-one k, take-suc marks k 0 l, has-append u (take k marks) (getD marks k 0 ∷ []), has-one u (getD marks k 0))

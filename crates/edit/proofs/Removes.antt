@@ -17,7 +17,9 @@ use Rattle.shapes.specs.Table.{table}
 use Rattle.words.proofs.Frame.{only-none, only-then}
 use Rattle.numbers.specs.declared.Caps.{Caps}
 use Rattle.numbers.specs.Half.{cut, halfOf}
+use Rattle.map.specs.declared.Way.the-variants.{Lone}
 use Rattle.map.specs.Cells.{Map, noCell, dimensionAt, holds, cellsOf}
+use Rattle.map.specs.Ways.{wayNumber}
 use Rattle.map.specs.History.{Remove, put, changed}
 use Rattle.map.specs.Sound.{Sound, TwoSolids}
 use Rattle.laws.proofs.Edits.{MayRemove, none-holds, sound-remove}
@@ -25,16 +27,17 @@ use Rattle.laws.proofs.Local.{more-remove}
 use Rattle.laws.proofs.Counted.{count-remove}
 use Rattle.laws.proofs.Solids.{two-remove}
 use Rattle.picture.specs.State.{State, mapWith, stateOf}
-use Rattle.picture.specs.Picture.{Pic, Wf}
+use Rattle.picture.specs.Picture.{Pic, Wf, sibWord}
 use Rattle.picture.specs.Changes.{withBody, withSib, withCount}
 use Rattle.picture.specs.Step.{Step}
 use Rattle.picture.specs.Writes.{MayWrite}
+use Rattle.picture.proofs.Alike.{state-same}
 use Rattle.chain.proofs.Readied.{ready-linked}
 use Rattle.mend.specs.Settle.{MaySettle, settled}
 use Rattle.edit.specs.Edit.{withLinks, MayLinks}
 use Rattle.edit.specs.Cleared.{clearedTo, cleared}
 use Rattle.edit.proofs.Around.{Turn, turn-out, links-hold, Around, past-sib, around-settle, around-wf}
-use Rattle.store.specs.Layout.{nearMarks}
+use Rattle.store.specs.Layout.{nearMarks, pastHalves}
 
 -- the state with the cell out of the chains of its marks, then with no cell there, then with no siblings of it
 abbrev pub parted : Map → ℕ → State
@@ -48,58 +51,65 @@ gone m c = cleared (emptied m c) c
 
 module _ (s : State) (c h : ℕ) where
   -- the siblings of the cell are cleared
-  cleared-own : h / 8 ≡ c → (mostFacets ≤ h % 8 → s .sib h ≡ 0) → cleared s c .sib h ≡ 0
-  unfolding clearedTo
+  cleared-own : h / 8 ≡ c → (mostFacets ≤ h % 8 → sibWord s h ≡ 0) → sibWord (cleared s c) h ≡ 0
+  unfolding clearedTo wayNumber
   cleared-own q past = rw (eq-eqb (h / 8) c q) (go (decLt (h % 8) mostFacets))
     where
-      go : Dec (h % 8 < mostFacets) → cond (ltb (h % 8) mostFacets) 0 (s .sib h) ≡ 0
+      go : Dec (h % 8 < mostFacets)
+          → 4 * cond (ltb (h % 8) mostFacets) 0 (s .sib h) + wayNumber (cond (ltb (h % 8) mostFacets) Lone (s .way h)) ≡ 0
       go (yes l) = rw (lt-ltb (h % 8) mostFacets l)
       go (no f) = rw (le-ltb (h % 8) mostFacets (omega arith)) (past (omega arith))
 
   -- and no others
-  cleared-other : (h / 8 ≡ c → ⊥) → cleared s c .sib h ≡ s .sib h
+  cleared-other : (h / 8 ≡ c → ⊥) → sibWord (cleared s c) h ≡ sibWord s h
   unfolding clearedTo
   cleared-other n = rw (ne-eqb (h / 8) c n)
 
 -- one after another
-with-sibs : State → (ℕ → ℕ) → State
-with-sibs s sib = record { at = s .at; chain = s .chain; sib = sib; anc = s .anc; count = s .count }
-
 none-cleared : (s : State) (c : ℕ) → clearedTo s c 0 ≡ s
-unfolding clearedTo with-sibs
-none-cleared s c = ap (with-sibs s) (fun-ext (λ h. rw (le-ltb (h % 8) 0 (omega arith)) (go (eqb (h / 8) c) h)))
+unfolding clearedTo
+none-cleared s c =
+    state-same (clearedTo s c 0) s refl refl (fun-ext (λ h. none 0 (s .sib) h)) (fun-ext (λ h. none Lone (s .way) h)) refl refl
   where
-    go : (b : Bool) (h : ℕ) → cond (b && false) 0 (s .sib h) ≡ s .sib h
-    go true h = refl
-    go false h = refl
+    go : {A : Type 0} (b : Bool) (x y : A) → cond (b && false) x y ≡ y
+    go true x y = refl
+    go false x y = refl
 
-one-more : (s : State) (c k : ℕ) → k < mostFacets → withSib (clearedTo s c k) (8 * c + k) 0 ≡ clearedTo s c (k + 1)
-unfolding clearedTo withSib with-sibs
-one-more s c k l = ap (with-sibs s) (fun-ext (λ h. go h (ℕ-discrete (h / 8) c) (ℕ-discrete (h % 8) k)))
+    none : {A : Type 0} (x : A) (was : ℕ → A) (h : ℕ) → cond (eqb (h / 8) c && ltb (h % 8) 0) x (was h) ≡ was h
+    none x was h = rw (le-ltb (h % 8) 0 (omega arith)) (go (eqb (h / 8) c) x (was h))
+
+one-more : (s : State) (c k : ℕ) → k < mostFacets → withSib (clearedTo s c k) (8 * c + k) 0 Lone ≡ clearedTo s c (k + 1)
+unfolding clearedTo withSib
+one-more s c k l =
+    state-same (withSib (clearedTo s c k) (8 * c + k) 0 Lone) (clearedTo s c (k + 1)) refl refl
+    (fun-ext (λ h. go 0 (s .sib) h (ℕ-discrete (h / 8) c) (ℕ-discrete (h % 8) k)))
+    (fun-ext (λ h. go Lone (s .way) h (ℕ-discrete (h / 8) c) (ℕ-discrete (h % 8) k))) refl refl
   where
-    go : (h : ℕ) → Dec (h / 8 ≡ c) → Dec (h % 8 ≡ k)
-        → cond (eqb (8 * c + k) h) 0 (cond (eqb (h / 8) c && ltb (h % 8) k) 0 (s .sib h)) ≡ cond (eqb (h / 8) c && ltb (h % 8) (k + 1)) 0 (s .sib h)
-    go h (no n) d = rw (ne-eqb (8 * c + k) h (λ z. n (omega arith)), ne-eqb (h / 8) c n)
-    go h (yes q) (yes e) = rw (eq-eqb (8 * c + k) h (omega arith), eq-eqb (h / 8) c q, lt-ltb (h % 8) (k + 1) (omega arith))
-    go h (yes q) (no f) = rw (ne-eqb (8 * c + k) h (λ z. f (omega arith)), eq-eqb (h / 8) c q) (past (decLt (h % 8) k))
-      where
-        past : Dec (h % 8 < k) → cond (ltb (h % 8) k) 0 (s .sib h) ≡ cond (ltb (h % 8) (k + 1)) 0 (s .sib h)
-        past (yes i) = rw (lt-ltb (h % 8) k i, lt-ltb (h % 8) (k + 1) (omega arith))
-        past (no g) = rw (le-ltb (h % 8) k (omega arith), le-ltb (h % 8) (k + 1) (omega arith))
+    past : {A : Type 0} (x : A) (was : ℕ → A) (h : ℕ) → (h % 8 ≡ k → ⊥) → Dec (h % 8 < k)
+        → cond (ltb (h % 8) k) x (was h) ≡ cond (ltb (h % 8) (k + 1)) x (was h)
+    past x was h f (yes i) = rw (lt-ltb (h % 8) k i, lt-ltb (h % 8) (k + 1) (omega arith))
+    past x was h f (no g) = rw (le-ltb (h % 8) k (omega arith), le-ltb (h % 8) (k + 1) (omega (arith, f)))
+
+    go : {A : Type 0} (x : A) (was : ℕ → A) (h : ℕ) → Dec (h / 8 ≡ c) → Dec (h % 8 ≡ k)
+        → cond (eqb (8 * c + k) h) x (cond (eqb (h / 8) c && ltb (h % 8) k) x (was h)) ≡ cond (eqb (h / 8) c && ltb (h % 8) (k + 1)) x (was h)
+    go x was h (no n) d = rw (ne-eqb (8 * c + k) h (λ z. n (omega arith)), ne-eqb (h / 8) c n)
+    go x was h (yes q) (yes e) = rw (eq-eqb (8 * c + k) h (omega arith), eq-eqb (h / 8) c q, lt-ltb (h % 8) (k + 1) (omega arith))
+    go x was h (yes q) (no f) = rw (ne-eqb (8 * c + k) h (λ z. f (omega arith)), eq-eqb (h / 8) c q) (past x was h f (decLt (h % 8) k))
 
 module _ (caps : Caps) (c : ℕ) (w : List ℕ) where
   pub clears-start : Step caps w w (λ s. c < caps .cells) (λ s. clearedTo s c 0)
   clears-start = record { inside = only-none; state = λ s p l. subst (λ (x : State). Pic w caps x) (sym (none-cleared s c)) p }
 
   pub clears-more : (w′ w″ : List ℕ) (k h x : ℕ) → Step caps w w′ (λ s. c < caps .cells) (λ s. clearedTo s c k) → h ≡ halfOf (cut c) (k % 8) → x ≡ 0
-      → Step caps w′ w″ (λ s. (h / 8 < caps .cells) × (h % 8 < mostFacets)) (λ s. withSib s h x) → k < mostFacets → Step caps w w″ (λ s. c < caps .cells) (λ s. clearedTo s c (k + 1))
+      → Step caps w′ w″ (λ s. (h / 8 < caps .cells) × (h % 8 < mostFacets) × (x < pastHalves)) (λ s. withSib s h x Lone) → k < mostFacets
+      → Step caps w w″ (λ s. c < caps .cells) (λ s. clearedTo s c (k + 1))
   unfolding halfOf
   clears-more w′ w″ k h x a e z b l = record {
     inside = only-then (a .inside) (b .inside);
     state = λ s p i.
         let here : h ≡ 8 * c + k = omega (arith, e, p .cells) in
-        subst (λ (x : State). Pic w″ caps x) (ap₂ (withSib (clearedTo s c k)) here z ∙ one-more s c k (omega arith))
-        (b .state (clearedTo s c k) (a .state s p i) (omega (arith, here), omega (arith, here)));
+        subst (λ (x : State). Pic w″ caps x) (ap₂ (λ (h x : ℕ). withSib (clearedTo s c k) h x Lone) here z ∙ one-more s c k (omega arith))
+        (b .state (clearedTo s c k) (a .state s p i) (omega (arith, here), omega (arith, here), omega (arith, z)));
   }
 
 module _ (m : Map) (s : Sound m) (c : ℕ) (r : MayRemove m c) where

@@ -3,6 +3,7 @@ use mathlib.Core.Bool.{cond, _&&_}
 use Prim.Native.Nat.{ℕ, _/_, _%_}
 use lib.Dec.{eqb, ltb}
 use Rattle.shapes.specs.Sizes.{mostFacets}
+use Rattle.map.specs.declared.Way.the-variants.{Lone}
 use Rattle.picture.specs.State.{State}
 
 -- 0 for the siblings of the first k half-facets of a cell; of all
@@ -11,6 +12,7 @@ clearedTo s c k = record {
   at = s .at;
   chain = s .chain;
   sib = λ h. cond (eqb (h / 8) c && ltb (h % 8) k) 0 (s .sib h);
+  way = λ h. cond (eqb (h / 8) c && ltb (h % 8) k) Lone (s .way h);
   anc = s .anc;
   count = s .count;
 }

@@ -22,6 +22,7 @@ withLinks s c marks on = record {
   at = s .at;
   chain = λ u k. cond (eqb c k && has u marks) on (s .chain u k);
   sib = s .sib;
+  way = s .way;
   anc = s .anc;
   count = s .count;
 }

@@ -1,7 +1,7 @@
 // The parts of an edit around one cell: in all chains of its marks, or out of them, and its siblings cleared.
 //
 // What is here: `relink_all` puts a cell into the chains of its marks or takes it out of them, `clear_siblings` writes 0 for the siblings
-// of its half-facets. Both are total on any memory. What is proved: on the picture of a state that allows the step (`MayLinks`) what is
+// of its half-facets, lone. Both are total on any memory. What is proved: on the picture of a state that allows the step (`MayLinks`) what is
 // left is the picture of the state so changed, and on any memory nothing beyond the room changes; the laws of a whole insertion and a
 // whole removal are in proofs/Inserts.antt and proofs/Removes.antt. What a caller should know: only the first eight marks are read, and
 // no type has more; the body is written before the chains, and taken after them.
@@ -10,6 +10,7 @@ ghost use Rattle.picture.specs.Step.{Step};
 ghost use Rattle.edit.specs.Edit.{withLinks, MayLinks};
 ghost use Rattle.edit.specs.Cleared.{cleared};
 use chain::relink;
+use map::Way;
 use numbers::Caps;
 use numbers::Cell;
 use numbers::Half;
@@ -40,7 +41,7 @@ pub fn clear_siblings(w: &mut [u32], caps: Caps, c: Cell)
 {
     let mut f: u32 = 0;
     while f < MOST_FACETS {
-        put_sibling(w, caps, half_of(c, f), Half(0));
+        put_sibling(w, caps, half_of(c, f), Half(0), Way::Lone);
         f += 1;
     }
 }

@@ -14,6 +14,7 @@ use Rattle.store.specs.Fields.{Magic, MarkCap, CellCap, Edition, Count, HeadRes
 use Rattle.store.specs.Slots.{Slot, InHead, InMark, InCell, Within}
 use Rattle.store.proofs.Heads.{headNumber}
 use Rattle.map.specs.Cells.{noCell, bodyIn, mapOf, cellsOf}
+use Rattle.map.specs.Ways.{wayNumber}
 use Rattle.map.specs.Siblings.{isHalf}
 use Rattle.map.specs.Stars.{anchors}
 use Rattle.map.specs.History.{empty}
@@ -59,7 +60,7 @@ module _ (caps : Caps) where
 
   -- each word of the room
   pub empty-word : (x : Slot) → Within (caps .marks) (caps .cells) x → headNumber x ≡ 0 → wordOf caps (stateOf (empty caps)) x ≡ 0
-  unfolding headNumber wordOf headWord markWord cellWord link linkTo ahead linkWord corner next keep stateOf empty mapOf bodyIn noCell
+  unfolding headNumber wordOf headWord markWord cellWord link linkTo ahead linkWord corner next keep stateOf empty mapOf bodyIn noCell wayNumber
   empty-word (InHead Magic) h n = absurd (omega arith)
   empty-word (InHead MarkCap) h n = absurd (omega arith)
   empty-word (InHead CellCap) h n = absurd (omega arith)

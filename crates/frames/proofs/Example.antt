@@ -2,16 +2,17 @@
 use mathlib.Core.Path.{_≡_, refl}
 use mathlib.Core.List.{List, [], _∷_}
 use Prim.Native.Nat.{ℕ}
-use Rattle.lists.specs.Lists.{any, all, has, sameSet, repeats, keep, select, first, after, listOf}
+use Rattle.lists.specs.Lists.{any, all, has, same, sameSet, repeats, keep, select, first, after, listOf}
 use Rattle.numbers.specs.Half.{halfOf}
 use Rattle.shapes.specs.Shapes as S
 use Rattle.map.specs.Cells.{noCell, bodyIn, mapOf, live, dimensionAt, holds, facetsAt, shares, cellsOf}
 use Rattle.map.specs.Siblings.{isHalf, marksOf, sharers, siblings, sibling, border}
+use Rattle.map.specs.Ways.{wayNumber, turned, rotation, runs, direction, between, way}
 use Rattle.map.specs.Groups.{grow, grown, groupOf}
 use Rattle.map.specs.Stars.{holders, star, linked, group, halvesAt, anchor, anchors}
 use Rattle.map.specs.Answers.{_when_, answer, third, insertChecks, cellChecks, halfChecks, starChecks}
 use Rattle.map.specs.History.{empty, put, editAnswer, changed, edited}
-use Rattle.frames.specs.Frames.{digits, placeOf, digitOf, badLine, byteAt, bytesOf, numberAt, twoBytes, marksFrom, _sized_means_, rows, meaning, frameIn, frameOf, each, counted, cellAndFacet, replyTo, mapAfter, hex, written, outputFrom, output}
+use Rattle.frames.specs.Frames.{digits, placeOf, digitOf, badLine, byteAt, bytesOf, numberAt, twoBytes, marksFrom, _sized_means_, rows, meaning, frameIn, frameOf, each, counted, cellAndFacet, siblingBytes, replyTo, mapAfter, hex, written, outputFrom, output}
 
 -- the left column, a line each
 unfoldable pub given : List ℕ
@@ -36,7 +37,7 @@ expected =
     48 ∷ 48 ∷ 10 ∷
     48 ∷ 48 ∷ 48 ∷ 48 ∷ 48 ∷ 50 ∷ 48 ∷ 48 ∷ 48 ∷ 48 ∷ 48 ∷ 48 ∷ 48 ∷ 49 ∷ 10 ∷
     48 ∷ 48 ∷ 48 ∷ 48 ∷ 48 ∷ 49 ∷ 48 ∷ 48 ∷ 48 ∷ 48 ∷ 48 ∷ 48 ∷ 10 ∷
-    48 ∷ 48 ∷ 48 ∷ 48 ∷ 48 ∷ 49 ∷ 48 ∷ 48 ∷ 10 ∷
+    48 ∷ 48 ∷ 48 ∷ 48 ∷ 48 ∷ 49 ∷ 48 ∷ 48 ∷ 48 ∷ 50 ∷ 10 ∷
     48 ∷ 48 ∷ 10 ∷
     48 ∷ 48 ∷ 48 ∷ 48 ∷ 48 ∷ 49 ∷ 48 ∷ 48 ∷ 48 ∷ 49 ∷ 10 ∷
     48 ∷ 53 ∷ 10 ∷
@@ -44,7 +45,7 @@ expected =
     []
 
 pub worked : output given ≡ expected
-unfolding given expected any all has sameSet repeats keep select first after listOf halfOf S.noShape S.shapes S.shape S.facetCount noCell bodyIn mapOf live dimensionAt holds facetsAt shares cellsOf isHalf marksOf sharers siblings sibling border grow grown groupOf holders star linked group halvesAt anchor anchors _when_ answer third insertChecks cellChecks halfChecks starChecks empty put editAnswer changed edited digits placeOf digitOf badLine byteAt bytesOf numberAt twoBytes marksFrom _sized_means_ rows meaning frameIn frameOf each counted cellAndFacet replyTo mapAfter hex written outputFrom output
+unfolding given expected any all has sameSet repeats keep select first after listOf halfOf S.noShape S.shapes S.shape S.facetCount noCell bodyIn mapOf live dimensionAt holds facetsAt shares cellsOf isHalf marksOf sharers siblings sibling border same wayNumber turned rotation runs direction between way grow grown groupOf holders star linked group halvesAt anchor anchors _when_ answer third insertChecks cellChecks halfChecks starChecks empty put editAnswer changed edited digits placeOf digitOf badLine byteAt bytesOf numberAt twoBytes marksFrom _sized_means_ rows meaning frameIn frameOf each counted cellAndFacet siblingBytes replyTo mapAfter hex written outputFrom output
 worked = refl
 
 -- frames that are refused, a line each, and what is written for them
@@ -111,5 +112,5 @@ refusals =
     []
 
 pub broken-frames : output broken ≡ refusals
-unfolding broken refusals any all has sameSet repeats keep select first after listOf halfOf S.noShape S.shapes S.shape S.facetCount noCell bodyIn mapOf live dimensionAt holds facetsAt shares cellsOf isHalf marksOf sharers siblings sibling border grow grown groupOf holders star linked group halvesAt anchor anchors _when_ answer third insertChecks cellChecks halfChecks starChecks empty put editAnswer changed edited digits placeOf digitOf badLine byteAt bytesOf numberAt twoBytes marksFrom _sized_means_ rows meaning frameIn frameOf each counted cellAndFacet replyTo mapAfter hex written outputFrom output
+unfolding broken refusals any all has sameSet repeats keep select first after listOf halfOf S.noShape S.shapes S.shape S.facetCount noCell bodyIn mapOf live dimensionAt holds facetsAt shares cellsOf isHalf marksOf sharers siblings sibling border same wayNumber turned rotation runs direction between way grow grown groupOf holders star linked group halvesAt anchor anchors _when_ answer third insertChecks cellChecks halfChecks starChecks empty put editAnswer changed edited digits placeOf digitOf badLine byteAt bytesOf numberAt twoBytes marksFrom _sized_means_ rows meaning frameIn frameOf each counted cellAndFacet siblingBytes replyTo mapAfter hex written outputFrom output
 broken-frames = refl

@@ -6,7 +6,7 @@ use Prim.Native.Nat.{ℕ, _≤_}
 use native.Mathlib.Omega.{arith}
 use borrow.Author.Tests.{le-ltb}
 use lib.Dec.{ltb}
-use lib.ListN.{length}
+use lib.ListN.{getD, length}
 use Rattle.numbers.specs.Half.{halfOf}
 use Rattle.numbers.specs.Sizes.{mostCapacity, capacities}
 use Rattle.numbers.specs.Editions.{isEdition}
@@ -17,31 +17,33 @@ use Rattle.map.specs.declared.Verdict.{Verdict}
 use Rattle.map.specs.declared.Verdict.the-variants.{Refused}
 use Rattle.map.specs.Cells.{Map}
 use Rattle.map.specs.Siblings.{sibling}
+use Rattle.map.specs.Ways.{wayNumber, way}
 use Rattle.map.specs.History.{empty}
 use Rattle.map.specs.Answers.{Check, Answer, _when_, answer, listAnswer, formatChecks, halfChecks, siblingAnswer}
 use Rattle.map.specs.Says.{given, refused, verdictSays}
-use Rattle.frames.specs.Frames.{Format, Sibling, Bad, cellAndFacet, replyTo, mapAfter}
+use Rattle.frames.specs.Frames.{Format, Sibling, Bad, siblingBytes, replyTo, mapAfter}
 
--- a call that gives one value tells of its checks, whatever they are asked for
-module _ (value : ℕ) (values : List ℕ) where
-  answer-given : (checks : List Check) (n : ℕ) → given (n ∷ []) ≡ answer checks (value ∷ []) → (n ≡ value) × (answer checks values ≡ given values)
+-- a call that gives values tells of its checks, whatever they are asked for
+module _ (value : ℕ) (more values : List ℕ) where
+  answer-given : (checks : List Check) (n : ℕ) (rest : List ℕ) → given (n ∷ rest) ≡ answer checks (value ∷ more)
+      → (n ∷ rest ≡ value ∷ more) × (answer checks values ≡ given values)
   unfolding given answer
-  answer-given [] n e = let z : _≡_ {A = List ℕ} (n ∷ []) (value ∷ []) = ap (λ (a : Answer). a .values) e in (cc, refl)
-  answer-given (c ∷ cs) n e = go (c .fails) e (answer-given cs n)
+  answer-given [] n rest e = (ap (λ (a : Answer). a .values) e, refl)
+  answer-given (c ∷ cs) n rest e = go (c .fails) e (answer-given cs n rest)
     where
-      go : (t : Bool) → given (n ∷ []) ≡ cond t (record { refusal = c .number; values = [] }) (answer cs (value ∷ []))
-          → (given (n ∷ []) ≡ answer cs (value ∷ []) → (n ≡ value) × (answer cs values ≡ given values))
-          → (n ≡ value) × (cond t (record { refusal = c .number; values = [] }) (answer cs values) ≡ given values)
-      go true f next = let z : _≡_ {A = List ℕ} (n ∷ []) [] = ap (λ (a : Answer). a .values) f in let o : _≡_ {A = ℕ} 0 1 = cc in absurd (omega arith)
+      go : (t : Bool) → given (n ∷ rest) ≡ cond t (record { refusal = c .number; values = [] }) (answer cs (value ∷ more))
+          → (given (n ∷ rest) ≡ answer cs (value ∷ more) → (n ∷ rest ≡ value ∷ more) × (answer cs values ≡ given values))
+          → (n ∷ rest ≡ value ∷ more) × (cond t (record { refusal = c .number; values = [] }) (answer cs values) ≡ given values)
+      go true f next = let z : _≡_ {A = List ℕ} (n ∷ rest) [] = ap (λ (a : Answer). a .values) f in let o : _≡_ {A = ℕ} 0 1 = cc in absurd (omega arith)
       go false f next = next f
 
-  answer-refused : (checks : List Check) (why : Refusal) → refused why ≡ answer checks (value ∷ []) → answer checks values ≡ refused why
+  answer-refused : (checks : List Check) (why : Refusal) → refused why ≡ answer checks (value ∷ more) → answer checks values ≡ refused why
   unfolding refused answer
-  answer-refused [] why e = let z : _≡_ {A = List ℕ} [] (value ∷ []) = ap (λ (a : Answer). a .values) e in let o : _≡_ {A = ℕ} 0 1 = cc in absurd (omega arith)
+  answer-refused [] why e = let z : _≡_ {A = List ℕ} [] (value ∷ more) = ap (λ (a : Answer). a .values) e in let o : _≡_ {A = ℕ} 0 1 = cc in absurd (omega arith)
   answer-refused (c ∷ cs) why e = go (c .fails) e (answer-refused cs why)
     where
-      go : (t : Bool) → refused why ≡ cond t (record { refusal = c .number; values = [] }) (answer cs (value ∷ []))
-          → (refused why ≡ answer cs (value ∷ []) → answer cs values ≡ refused why)
+      go : (t : Bool) → refused why ≡ cond t (record { refusal = c .number; values = [] }) (answer cs (value ∷ more))
+          → (refused why ≡ answer cs (value ∷ more) → answer cs values ≡ refused why)
           → cond t (record { refusal = c .number; values = [] }) (answer cs values) ≡ refused why
       go true f next = sym f
       go false f next = next f
@@ -60,10 +62,12 @@ fitting checks l places h = last-passes checks (12 when ltb places (length l)) (
 -- so a list that fits tells of its checks, whatever is written of it
 module _ (checks : List Check) (l values : List ℕ) (places : ℕ) (h : length l ≤ places) where
   pub list-given : (n : ℕ) → given (n ∷ []) ≡ listAnswer checks l places → (n ≡ length l) × (answer checks values ≡ given values)
-  list-given n e = answer-given (length l) values checks n (e ∙ fitting checks l places h)
+  list-given n e =
+      let r = answer-given (length l) [] values checks n [] (e ∙ fitting checks l places h) in
+      (ap (λ (x : List ℕ). getD x 0 0) (r .0), r .1)
 
   pub list-refused : (why : Refusal) → refused why ≡ listAnswer checks l places → answer checks values ≡ refused why
-  list-refused why e = answer-refused (length l) values checks why (e ∙ fitting checks l places h)
+  list-refused why e = answer-refused (length l) [] values checks why (e ∙ fitting checks l places h)
 
 module _ (m : Map) where
   -- "The program keeps at most 384 marks and 384 cells; more is refused with 1."
@@ -87,15 +91,22 @@ module _ (m : Map) where
   unfolding mapAfter replyTo answer _when_
   map-above marks cells e = rw e
 
-  pub reply-sibling : (c f h : ℕ) → given (h ∷ []) ≡ siblingAnswer m c f → replyTo m (Sibling c f) ≡ given (cellAndFacet h)
-  unfolding replyTo siblingAnswer
-  reply-sibling c f h e =
-      let r = answer-given (sibling m (halfOf c f)) (cellAndFacet (sibling m (halfOf c f))) (halfChecks m c f) h e in
-      r .1 ∙ ap (λ (k : ℕ). given (cellAndFacet k)) (sym (r .0))
+  bytes : ℕ → List ℕ
+  bytes h = siblingBytes (sibling m h) (wayNumber (way m h))
+
+  pub reply-sibling : (c f h n : ℕ) → given (h ∷ n ∷ []) ≡ siblingAnswer m c f → replyTo m (Sibling c f) ≡ given (siblingBytes h n)
+  unfolding replyTo siblingAnswer bytes
+  reply-sibling c f h n e =
+      let k : ℕ = halfOf c f in
+      let r = answer-given (sibling m k) (wayNumber (way m k) ∷ []) (bytes k) (halfChecks m c f) h (n ∷ []) e in
+      let first : h ≡ sibling m k = ap (λ (x : List ℕ). getD x 0 0) (r .0) in
+      let second : n ≡ wayNumber (way m k) = ap (λ (x : List ℕ). getD x 1 0) (r .0) in
+      r .1 ∙ rw (first, second)
 
   pub reply-sibling-refused : (c f : ℕ) (why : Refusal) → refused why ≡ siblingAnswer m c f → replyTo m (Sibling c f) ≡ refused why
-  unfolding replyTo siblingAnswer
-  reply-sibling-refused c f why e = answer-refused (sibling m (halfOf c f)) (cellAndFacet (sibling m (halfOf c f))) (halfChecks m c f) why e
+  unfolding replyTo siblingAnswer bytes
+  reply-sibling-refused c f why e =
+      answer-refused (sibling m (halfOf c f)) (wayNumber (way m (halfOf c f)) ∷ []) (bytes (halfOf c f)) (halfChecks m c f) why e
 
   pub reply-bad : replyTo m Bad ≡ verdictSays (Refused BadFrame)
   unfolding replyTo answer _when_ verdictSays refused

@@ -8,7 +8,7 @@ use lib.ListN.{length, length-append}
 use Rattle.map.specs.declared.Verdict.{Verdict}
 use Rattle.map.specs.declared.Verdict.the-variants as Verdict′
 use Rattle.map.specs.Says.{given, refused, verdictSays}
-use Rattle.frames.specs.Frames.{twoBytes, each, counted, cellAndFacet, hex, written}
+use Rattle.frames.specs.Frames.{twoBytes, each, counted, cellAndFacet, siblingBytes, hex, written}
 use Rattle.numbers.specs.Sizes.{mostAround}
 
 hex-length : (l : List ℕ) → length (hex l) ≡ 2 * length l
@@ -31,9 +31,9 @@ unfolding written verdictSays given refused hex
 verdict-length Verdict′.Accepted = refl
 verdict-length (Verdict′.Refused r) = refl
 
-pub half-length : (h : ℕ) → length (written (given (cellAndFacet h))) ≡ 9
-unfolding cellAndFacet twoBytes
-half-length h = written-length (cellAndFacet h)
+pub half-length : (h n : ℕ) → length (written (given (siblingBytes h n))) ≡ 11
+unfolding siblingBytes cellAndFacet twoBytes
+half-length h n = written-length (siblingBytes h n)
 
 counted-length : (f : ℕ → List ℕ) (k : ℕ) → ((x : ℕ) → length (f x) ≡ k) → (l : List ℕ) → length (counted f l) ≡ 2 + length l * k
 unfolding counted twoBytes

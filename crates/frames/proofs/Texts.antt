@@ -9,9 +9,12 @@ use lib.Seq.{take-suc, take-all}
 use Rattle.map.specs.declared.Refusal.{Refusal}
 use Rattle.map.specs.declared.Verdict.{Verdict}
 use Rattle.map.specs.declared.Verdict.the-variants as Verdict′
+use Rattle.map.specs.declared.Way.{Way}
+use Rattle.map.specs.Ways.{wayNumber}
 use Rattle.map.proofs.Refusals.{number-byte}
+use Rattle.map.proofs.Ways.{way-few}
 use Rattle.map.specs.Says.{numberOf, given, refused, verdictSays}
-use Rattle.frames.specs.Frames.{digits, twoBytes, each, counted, cellAndFacet, hex, written}
+use Rattle.frames.specs.Frames.{digits, twoBytes, each, counted, cellAndFacet, siblingBytes, hex, written}
 use Rattle.frames.specs.Forms.{Appended}
 use Rattle.frames.proofs.Append.{append-none, append-more, append-same}
 
@@ -44,6 +47,14 @@ module _ {o o′ o″ : List ℕ} {at p q : ℕ} where
   pub half-done : (h : ℕ) → Appended (hex (twoBytes (h / 8))) o at p o′ → Appended (hex (h % 8 ∷ [])) o′ p q o″ → Appended (hex (cellAndFacet h)) o at q o″
   unfolding cellAndFacet
   half-done h f s = append-same (sym (hex-append (twoBytes (h / 8)) (h % 8 ∷ []))) (append-more (hex (twoBytes (h / 8))) (hex (h % 8 ∷ [])) f s)
+
+  -- a sibling's half-facet, and the byte of its way
+  pub way-done : (h n b : ℕ) (x : Way) → n ≡ wayNumber x → b ≡ n % 256 → Appended (hex (cellAndFacet h)) o at p o′ → Appended (hex (b ∷ [])) o′ p q o″
+      → Appended (hex (siblingBytes h (wayNumber x))) o at q o″
+  unfolding siblingBytes
+  way-done h n b x e byte f s =
+      let same : b ≡ wayNumber x = omega (arith, e, byte, way-few x) in
+      append-same (rw same (sym (hex-append (cellAndFacet h) (wayNumber x ∷ [])))) (append-more (hex (cellAndFacet h)) (hex (b ∷ [])) f s)
 
   pub counted-done : (g : ℕ → List ℕ) (l : List ℕ) → Appended (hex (twoBytes (length l))) o at p o′ → Appended (hex (each g l)) o′ p q o″ → Appended (hex (counted g l)) o at q o″
   unfolding counted

@@ -9,6 +9,7 @@ use Rattle.numbers.specs.Half.{halfOf}
 use Rattle.numbers.specs.Sizes.{capacities}
 use Rattle.map.specs.Cells.{bodyOf, Map}
 use Rattle.map.specs.Siblings.{sibling}
+use Rattle.map.specs.Ways.{wayNumber, way}
 use Rattle.map.specs.Stars.{star, anchors}
 use Rattle.map.specs.Answers.{Answer, _when_, answer, starChecks, halfChecks}
 use Rattle.map.specs.History.{empty, Edit, Insert, Remove, editAnswer, edited}
@@ -110,13 +111,17 @@ counted f l = twoBytes (length l) ++ each f l
 unfoldable pub cellAndFacet : ℕ → List ℕ
 cellAndFacet h = twoBytes (h / 8) ++ (h % 8 ∷ [])
 
+-- a sibling "gets one more byte", the number of the way that it runs
+unfoldable pub siblingBytes : ℕ → ℕ → List ℕ
+siblingBytes h n = cellAndFacet h ++ (n ∷ [])
+
 -- the refusal, and the bytes after it; "The program keeps at most 384 marks and 384 cells; more is refused with 1."
 unfoldable pub replyTo : Map → Frame → Answer
 replyTo m (Format marks cells) = answer ((1 when ltb 384 marks || ltb 384 cells) ∷ []) []
 replyTo m (Change e) = editAnswer m e
 replyTo m (Star d v) = answer (starChecks m d v) (counted twoBytes (star m d v))
 replyTo m (Anchors d v) = answer (starChecks m d v) (counted cellAndFacet (anchors m d v))
-replyTo m (Sibling c f) = answer (halfChecks m c f) (cellAndFacet (sibling m (halfOf c f)))
+replyTo m (Sibling c f) = answer (halfChecks m c f) (siblingBytes (sibling m (halfOf c f)) (wayNumber (way m (halfOf c f))))
 replyTo m Bad = answer ((15 when true) ∷ []) []
 
 -- the map afterwards: an accepted format or edit makes another, all else leaves it

@@ -10,10 +10,13 @@ ghost use mathlib.Core.List.{[], _∷_};
 ghost use Prim.Native.Nat.{_%_};
 ghost use lib.ListN.{getD};
 ghost use Rattle.map.specs.Says.{given, verdictSays};
-ghost use Rattle.frames.specs.Frames.{digits, digitOf, badLine, bytesOf, numberAt, twoBytes, marksFrom, frameIn, frameOf, each, counted, cellAndFacet, hex, written};
+ghost use Rattle.map.specs.Ways.{wayNumber};
+ghost use Rattle.frames.specs.Frames.{digits, digitOf, badLine, bytesOf, numberAt, twoBytes, marksFrom, frameIn, frameOf, each, counted, cellAndFacet, siblingBytes, hex, written};
 ghost use Rattle.frames.specs.Forms.{carried, Reading, Marked, Appended};
 use map::Verdict;
+use map::Way;
 use map::number_of;
+use map::way_number;
 use numbers::Cell;
 use numbers::Half;
 use numbers::Mark;
@@ -300,11 +303,12 @@ pub fn write_halves(out: &mut [u8], at: usize, halves: &[u32]) -> usize
     add(out, third, LINE_END)
 }
 
-// The line of an accepted sibling.
-pub fn write_half(out: &mut [u8], at: usize, h: Half) -> usize
-    ensures { λ r. ⌜ Appended (written (given (cellAndFacet (h .0)))) (now (out .entry)) at r (now (out .exit)) ⌝ }
+// The line of an accepted sibling: the half-facet, and the byte of the way that it runs.
+pub fn write_half(out: &mut [u8], at: usize, h: Half, way: Way) -> usize
+    ensures { λ r. ⌜ Appended (written (given (siblingBytes (h .0) (wayNumber way)))) (now (out .entry)) at r (now (out .exit)) ⌝ }
 {
     let first = add_byte(out, at, 0);
     let second = add_half(out, first, h.0);
-    add(out, second, LINE_END)
+    let last = add_byte(out, second, (way_number(way) % 256) as u8);
+    add(out, last, LINE_END)
 }

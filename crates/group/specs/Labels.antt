@@ -10,8 +10,7 @@ use Rattle.shapes.specs.Shapes.{facetCount}
 use Rattle.numbers.specs.declared.Caps.{Caps}
 use Rattle.lists.specs.Lists.{has}
 use Rattle.facet.specs.Facet.{facetIn}
-use Rattle.store.specs.Fields.{Sib}
-use Rattle.store.specs.Slots.{InCell, read, codeIn}
+use Rattle.store.specs.Slots.{codeIn, siblingIn}
 use Rattle.numbers.specs.Sizes.{mostAround}
 
 -- one of the numbers below n passes
@@ -21,7 +20,7 @@ anyBelow (suc n) p = p n || anyBelow n p
 
 -- the stored sibling of a half-facet
 abbrev pub sibAt : List ℕ → Caps → ℕ → ℕ
-sibAt w caps h = read w caps (InCell (h / 8) (Sib (h % 8)))
+sibAt w caps h = siblingIn w caps h
 
 -- from half-facet h on, in at most k steps by the words, cell b is met before half-facet start
 unfoldable pub meetsIn : List ℕ → Caps → ℕ → ℕ → ℕ → ℕ → Bool

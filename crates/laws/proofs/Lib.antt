@@ -10,3 +10,4 @@ pub mod Local
 pub mod Counted
 pub mod Facets
 pub mod Solids
+pub mod Ways

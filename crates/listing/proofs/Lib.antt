@@ -4,6 +4,7 @@ pub mod Listed
 pub mod Looked
 pub mod Facets
 pub mod Turned
+pub mod Ways
 pub mod Typed
 pub mod Least
 pub mod Near

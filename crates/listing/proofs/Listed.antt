@@ -44,7 +44,7 @@ use Rattle.checks.specs.Opening.{Opens}
 use Rattle.checks.specs.declared.Opening.{Opening}
 use Rattle.checks.specs.declared.Opening.the-variants as Opening′
 use Rattle.checks.proofs.Opens.{mesh-opened, wf-caps}
-use Rattle.listing.specs.Listing.{listed, Listing, Given}
+use Rattle.listing.specs.Listing.{listed, ListingIn, Listing, GivenIn, Given}
 use Rattle.numbers.specs.Sizes.{mostAround}
 
 -- a refused answer lists nothing
@@ -68,55 +68,55 @@ first-only l o o′ n a b e = record {
       rw e (ap (λ (k : ℕ). getD (l ++ drop (length l) o) k 0) (sym z) ∙ (getD-append-add l (drop (length l) o) (i - length l) 0 ∙ (getD-drop (length l) o (i - length l) 0 ∙ ap (λ (k : ℕ). getD o k 0) z)));
 }
 
-module _ (w : List ℕ) (checks : Map → List Check) (list : Map → List ℕ) (o : List ℕ) where
+module _ (places : ℕ) (w : List ℕ) (checks : Map → List Check) (list : Map → List ℕ) (o : List ℕ) where
   -- refused: no mesh, or by the checks
-  pub listing-refused : (opening : Opening) → Opens w checks opening → (why : Refusal) → opening ≡ Opening′.Refused why
-      → Listing w checks list o (Val.Refused why) o
+  pub fitted-refused : (opening : Opening) → Opens w checks opening → (why : Refusal) → opening ≡ Opening′.Refused why
+      → ListingIn places w checks list o (Val.Refused why) o
   unfolding listAnswer valueSays
-  listing-refused opening k why q = record {
+  fitted-refused opening k why q = record {
     refused = λ none. ap Val.Refused (k .no-mesh why q none);
     kept = λ other q. refl;
     first = λ n q. absurd (not-given n why q);
     answers = λ m wf.
-        let a = refused-more (checks m) ((12 when ltb (length o) (length (list m))) ∷ []) why (length (list m) ∷ []) (k .fails why q m wf) in
-        (a, listed-refused (answer (checks m ++ ((12 when ltb (length o) (length (list m))) ∷ [])) (length (list m) ∷ [])) why (list m) o a);
+        let a = refused-more (checks m) ((12 when ltb places (length (list m))) ∷ []) why (length (list m) ∷ []) (k .fails why q m wf) in
+        (a, listed-refused (answer (checks m ++ ((12 when ltb places (length (list m))) ∷ [])) (length (list m) ∷ [])) why (list m) o a);
   }
 
   module _ (caps : Caps) (opens : Mesh caps ≡ opened w) (verdict : Verdict) (checked : Checked w caps checks verdict) where
     module _ (v : verdict ≡ Accepted) (numbered : (m : Map) → Numbered (checks m)) where
       behind : (m : Map) → Wf w m
-          → answer ((12 when ltb (length o) (length (list m))) ∷ []) (length (list m) ∷ []) ≡ listAnswer (checks m) (list m) (length o)
+          → answer ((12 when ltb places (length (list m))) ∷ []) (length (list m) ∷ []) ≡ listAnswer (checks m) (list m) places
       unfolding listAnswer verdictSays
       behind m wf =
-          given-more (checks m) ((12 when ltb (length o) (length (list m))) ∷ []) (length (list m) ∷ []) (numbered m)
+          given-more (checks m) ((12 when ltb places (length (list m))) ∷ []) (length (list m) ∷ []) (numbered m)
           (ap verdictSays (sym v) ∙ checked .says m (wf-caps w m wf caps opens) wf)
 
       -- the output is shorter than the list
-      pub listing-short : (n : ℕ) → length o < n → ((m : Map) → m .caps ≡ caps → Wf w m → n ≡ length (list m))
-          → Listing w checks list o (Val.Refused OutputShort) o
+      pub fitted-short : (n : ℕ) → places < n → ((m : Map) → m .caps ≡ caps → Wf w m → n ≡ length (list m))
+          → ListingIn places w checks list o (Val.Refused OutputShort) o
       unfolding _when_ answer valueSays refused listed
-      listing-short n h counts = record {
+      fitted-short n h counts = record {
         refused = λ none. absurd (clash (mesh-opened w caps opens .0) none);
         kept = λ why q. refl;
         first = λ n q. absurd (not-given n OutputShort q);
         answers = λ m wf.
             let p = counts m (wf-caps w m wf caps opens) wf in
-            let short : ltb (length o) (length (list m)) ≡ true = lt-ltb (length o) (length (list m)) (omega (arith, p)) in
+            let short : ltb places (length (list m)) ≡ true = lt-ltb places (length (list m)) (omega (arith, p)) in
             rw (← behind m wf, short) (refl, refl);
       }
 
       -- the list stands in the first places of the output
-      pub listing-wrote : (n : ℕ) (o′ : List ℕ) → n ≤ length o → Only (λ i. i < n) o o′
+      pub fitted-wrote : (n : ℕ) (o′ : List ℕ) → n ≤ places → places ≤ length o → Only (λ i. i < n) o o′
           → ((m : Map) → m .caps ≡ caps → Wf w m → (n ≡ length (list m)) × (o′ ≡ list m ++ drop (length (list m)) o))
-          → Listing w checks list o (Val.Is n) o′
+          → ListingIn places w checks list o (Val.Is n) o′
       unfolding _when_ answer valueSays given listed
-      listing-wrote n o′ h only written = record {
+      fitted-wrote n o′ h fit only written = record {
         refused = λ none. absurd (clash (mesh-opened w caps opens .0) none);
         kept = λ why q. absurd (not-given n why (sym q));
-        first = λ k q. rw (← count-one n k q) (h, only);
+        first = λ k q. rw (← count-one n k q) (omega arith, only);
         answers = λ m wf.
             let p = written m (wf-caps w m wf caps opens) wf in
-            let fits : ltb (length o) (length (list m)) ≡ false = le-ltb (length o) (length (list m)) (omega (arith, p .0)) in
+            let fits : ltb places (length (list m)) ≡ false = le-ltb places (length (list m)) (omega (arith, p .0)) in
             rw (← behind m wf, fits) (ap (λ (k : ℕ). record { refusal = 0; values = k ∷ [] }) (p .0), p .1);
       }
 
@@ -127,22 +127,44 @@ module _ (w : List ℕ) (checks : Map → List Check) (list : Map → List ℕ) 
         whole m e wf =
             (lists m e wf .count, copied-list (list m) zeros from n (room m e wf) (lists m e wf))
 
-        pub listing-given : (r : Value) (o′ : List ℕ) → Given from n o r o′ → Listing w checks list o r o′
-        listing-given r o′ g = go (decLt (length o) n)
+        pub fitted-given : (r : Value) (o′ : List ℕ) → places ≤ length o → GivenIn places from n o r o′ → ListingIn places w checks list o r o′
+        fitted-given r o′ fit g = go (decLt places n)
           where
-            gives : n ≤ length o → (m : Map) → m .caps ≡ caps → Wf w m → (n ≡ length (list m)) × (o′ ≡ list m ++ drop (length (list m)) o)
+            gives : n ≤ places → (m : Map) → m .caps ≡ caps → Wf w m → (n ≡ length (list m)) × (o′ ≡ list m ++ drop (length (list m)) o)
             gives h m e wf =
                 let p = whole m e wf in
                 (p .0, rw (← p .1, length-listOf) (g .fits h .1))
 
-            only : n ≤ length o → Only (λ i. i < n) o o′
+            only : n ≤ places → Only (λ i. i < n) o o′
             only h =
                 let size = length-listOf n (λ i. getD from i 0) in
-                first-only (listOf n (λ i. getD from i 0)) o o′ n (omega (arith, size)) h (rw size (g .fits h .1))
+                first-only (listOf n (λ i. getD from i 0)) o o′ n (omega (arith, size)) (omega arith) (rw size (g .fits h .1))
 
-            go : Dec (length o < n) → Listing w checks list o r o′
-            go (yes h) = rw (g .short h .0, g .short h .1) (listing-short n h (λ m e wf. lists m e wf .count))
-            go (no f) = rw (g .fits (omega arith) .0) (listing-wrote n o′ (omega arith) (only (omega arith)) (gives (omega arith)))
+            go : Dec (places < n) → ListingIn places w checks list o r o′
+            go (yes h) = rw (g .short h .0, g .short h .1) (fitted-short n h (λ m e wf. lists m e wf .count))
+            go (no f) = rw (g .fits (omega arith) .0) (fitted-wrote n o′ (omega arith) fit (only (omega arith)) (gives (omega arith)))
+
+-- in as many places as the output has
+module _ (w : List ℕ) (checks : Map → List Check) (list : Map → List ℕ) (o : List ℕ) where
+  pub listing-refused : (opening : Opening) → Opens w checks opening → (why : Refusal) → opening ≡ Opening′.Refused why
+      → Listing w checks list o (Val.Refused why) o
+  listing-refused = fitted-refused (length o) w checks list o
+
+  module _ (caps : Caps) (opens : Mesh caps ≡ opened w) (verdict : Verdict) (checked : Checked w caps checks verdict) where
+    module _ (v : verdict ≡ Accepted) (numbered : (m : Map) → Numbered (checks m)) where
+      pub listing-short : (n : ℕ) → length o < n → ((m : Map) → m .caps ≡ caps → Wf w m → n ≡ length (list m))
+          → Listing w checks list o (Val.Refused OutputShort) o
+      listing-short = fitted-short (length o) w checks list o caps opens verdict checked v numbered
+
+      pub listing-wrote : (n : ℕ) (o′ : List ℕ) → n ≤ length o → Only (λ i. i < n) o o′
+          → ((m : Map) → m .caps ≡ caps → Wf w m → (n ≡ length (list m)) × (o′ ≡ list m ++ drop (length (list m)) o))
+          → Listing w checks list o (Val.Is n) o′
+      listing-wrote n o′ h = fitted-wrote (length o) w checks list o caps opens verdict checked v numbered n o′ h (omega arith)
+
+      pub listing-given : (zeros from : List ℕ) (n : ℕ) → ((m : Map) → m .caps ≡ caps → Wf w m → n ≤ length zeros)
+          → ((m : Map) → m .caps ≡ caps → Wf w m → Copied (list m) zeros n from) → (r : Value) (o′ : List ℕ) → Given from n o r o′ → Listing w checks list o r o′
+      listing-given zeros from n room lists r o′ =
+          fitted-given (length o) w checks list o caps opens verdict checked v numbered zeros from n room lists r o′ (omega arith)
 
 -- what a reader gives on the state of a map
 pub gives-list : (w : List ℕ) (caps : Caps) (most : ℕ) (ok : State → Type 0) (list : Map → List ℕ) (o o′ : List ℕ) (r : ℕ) → Gives w caps most ok list o r o′

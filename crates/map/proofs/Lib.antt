@@ -1,4 +1,5 @@
 -- The twelve cases.
 pub mod Cases
 pub mod Refusals
+pub mod Ways
 pub mod Says

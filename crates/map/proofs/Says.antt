@@ -19,7 +19,9 @@ use Rattle.map.specs.declared.Truth.the-variants as Truth′
 use Rattle.map.specs.declared.Built.{Built}
 use Rattle.map.specs.declared.Built.the-variants as Built′
 use Rattle.map.specs.Answers.{Answer}
+use Rattle.map.specs.Ways.{wayAt}
 use Rattle.map.proofs.Refusals.{refusals, number-back}
+use Rattle.map.proofs.Ways.{way-back}
 use Rattle.map.specs.Says.{numberOf, given, refused, verdictSays, valueSays, halfSays, foundSays, truthSays, builtSays}
 
 -- what an answer was, read back: accepted with its values, or refused
@@ -69,7 +71,7 @@ abbrev halfNumber : ℕ → Half
 halfNumber n = record { 0 = n }
 
 wasHalfAt : List ℕ → HalfAt
-wasHalfAt values = HalfAt′.At (halfNumber (getD values 0 0))
+wasHalfAt values = HalfAt′.At (halfNumber (getD values 0 0)) (wayAt (getD values 1 0))
 
 notHalfAt : Refusal → List ℕ → HalfAt
 notHalfAt r values = HalfAt′.Refused r
@@ -79,7 +81,7 @@ unfolding halfSays given refused back wasHalfAt notHalfAt
 half-one = one halfSays (back wasHalfAt notHalfAt) again
   where
     again : (x : HalfAt) → back wasHalfAt notHalfAt (halfSays x) ≡ x
-    again (HalfAt′.At h) = refl
+    again (HalfAt′.At h way) = ap (HalfAt′.At h) (way-back way)
     again (HalfAt′.Refused r) = back-refused wasHalfAt notHalfAt r []
 
 wasFound : List ℕ → Found

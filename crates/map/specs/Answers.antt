@@ -11,6 +11,7 @@ use Rattle.numbers.specs.declared.Caps.{Caps}
 use Rattle.shapes.specs.Shapes.{shape, facetCount}
 use Rattle.map.specs.Cells.{Body, Map, live, setsOf, cellsOf, neighbours}
 use Rattle.map.specs.Siblings.{sharers, sibling, cycle, border}
+use Rattle.map.specs.Ways.{wayNumber, way}
 use Rattle.map.specs.Stars.{holders, star, anchors}
 use Rattle.numbers.specs.Sizes.{mostAround, mostCapacity}
 use Rattle.numbers.specs.Editions.{secondEdition, isEdition}
@@ -94,9 +95,11 @@ typeAnswer m c = answer (cellChecks m c) (m .at c .code ∷ [])
 unfoldable pub marksPart : Map → ℕ → List ℕ
 marksPart m c = cond (eqb (typeAnswer m c .refusal) 0) (m .at c .marks) []
 
+-- "The sibling answer gains one word"
 unfoldable pub siblingAnswer : Map → ℕ → ℕ → Answer
-siblingAnswer m c f = answer (halfChecks m c f) (sibling m (halfOf c f) ∷ [])
+siblingAnswer m c f = answer (halfChecks m c f) (sibling m (halfOf c f) ∷ wayNumber (way m (halfOf c f)) ∷ [])
 
+-- with the ways beside it in an output of their own, as long as the shorter
 unfoldable pub cycleAnswer : Map → ℕ → ℕ → ℕ → Answer
 cycleAnswer m c f places = listAnswer (halfChecks m c f) (cycle m (halfOf c f)) places
 

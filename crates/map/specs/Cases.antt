@@ -99,6 +99,12 @@ p12 = tri 0 0 1 2 ∷ tetra 1 0 1 2 3 ∷ []
 unfoldable pub twoQuads : List Edit
 twoQuads = quad 0 0 1 2 3 ∷ quad 1 0 4 1 2 ∷ []
 
+unfoldable pub bars : List Edit
+bars = bar 0 0 1 ∷ bar 1 0 2 ∷ []
+
+unfoldable pub twoTetras : List Edit
+twoTetras = tetra 0 0 1 2 3 ∷ tetra 1 1 2 0 4 ∷ []
+
 unfoldable pub brick : ℕ → ℕ → Edit
 brick c v = Insert c (bodyOf 7 (v ∷ (1 + v) ∷ (2 + v) ∷ (3 + v) ∷ (4 + v) ∷ (5 + v) ∷ (6 + v) ∷ (7 + v) ∷ []))
 
@@ -124,28 +130,28 @@ rows =
     ∷ (p2 asked Inner gives 0 ∷ [])
     ∷ (p2 asked Anchors 2 2 gives 0 ∷ 1 ∷ [])
     -- P3 add cell 1 triangle (2,1,3): 1 and 8 are siblings
-    ∷ (p3 asked Sibling 0 1 gives 0 ∷ 8 ∷ [])
-    ∷ (p3 asked Sibling 1 0 gives 0 ∷ 1 ∷ [])
+    ∷ (p3 asked Sibling 0 1 gives 0 ∷ 8 ∷ 2 ∷ [])
+    ∷ (p3 asked Sibling 1 0 gives 0 ∷ 1 ∷ 2 ∷ [])
     -- P4 triangles 0 (0,1,2), 1 (0,1,3), 2 (0,1,4): 0 to 8 to 16 to 0
-    ∷ (p4 asked Sibling 0 0 gives 0 ∷ 8 ∷ [])
-    ∷ (p4 asked Sibling 1 0 gives 0 ∷ 16 ∷ [])
-    ∷ (p4 asked Sibling 2 0 gives 0 ∷ 0 ∷ [])
+    ∷ (p4 asked Sibling 0 0 gives 0 ∷ 8 ∷ 1 ∷ [])
+    ∷ (p4 asked Sibling 1 0 gives 0 ∷ 16 ∷ 1 ∷ [])
+    ∷ (p4 asked Sibling 2 0 gives 0 ∷ 0 ∷ 1 ∷ [])
     -- P5 triangles 0 (0,1,2), 1 (0,3,4): the anchors of mark 0 are 0 and 8
     ∷ (p5 asked Anchors 2 0 gives 0 ∷ 0 ∷ 8 ∷ [])
     -- P6 tetrahedra 0 (0,1,2,3), 1 (0,2,1,4): 0 and 8 are siblings; the anchor of mark 0 is 1
-    ∷ (p6 asked Sibling 0 0 gives 0 ∷ 8 ∷ [])
-    ∷ (p6 asked Sibling 1 0 gives 0 ∷ 0 ∷ [])
+    ∷ (p6 asked Sibling 0 0 gives 0 ∷ 8 ∷ 2 ∷ [])
+    ∷ (p6 asked Sibling 1 0 gives 0 ∷ 0 ∷ 2 ∷ [])
     ∷ (p6 asked Anchors 3 0 gives 0 ∷ 1 ∷ [])
     -- P7 triangles 0 (0,2,1), 1 (0,1,3), 2 (1,2,3), 3 (2,0,3): no border; the anchor of mark 3 is 9
     ∷ (p7 asked Borders gives 0 ∷ [])
     ∷ (p7 asked Anchors 2 3 gives 0 ∷ 9 ∷ [])
     -- P8 bars 0 (0,1), 1 (1,2): 1 and 8 are siblings; the anchor of mark 1 is 1
-    ∷ (p8 asked Sibling 0 1 gives 0 ∷ 8 ∷ [])
-    ∷ (p8 asked Sibling 1 0 gives 0 ∷ 1 ∷ [])
+    ∷ (p8 asked Sibling 0 1 gives 0 ∷ 8 ∷ 2 ∷ [])
+    ∷ (p8 asked Sibling 1 0 gives 0 ∷ 1 ∷ 2 ∷ [])
     ∷ (p8 asked Anchors 1 1 gives 0 ∷ 1 ∷ [])
     -- P9 P4 without cell 1: 0 to 16 to 0, and 8 is refused with 5
-    ∷ (p9 asked Sibling 0 0 gives 0 ∷ 16 ∷ [])
-    ∷ (p9 asked Sibling 2 0 gives 0 ∷ 0 ∷ [])
+    ∷ (p9 asked Sibling 0 0 gives 0 ∷ 16 ∷ 1 ∷ [])
+    ∷ (p9 asked Sibling 2 0 gives 0 ∷ 0 ∷ 1 ∷ [])
     ∷ (p9 asked Sibling 1 0 gives 5 ∷ [])
     -- P10 P2, then triangle (2,0,1) as cell 1: 10
     ∷ (p2 asked Try (tri 1 2 0 1) gives 10 ∷ [])
@@ -154,12 +160,12 @@ rows =
     -- P12 P2 with tetrahedron 1 (0,1,2,3): no siblings across
     ∷ (p12 asked Borders gives 0 ∷ 0 ∷ 1 ∷ 2 ∷ 8 ∷ 9 ∷ 10 ∷ 11 ∷ [])
     -- request 3: quads 0 (0,1,2,3), 1 (0,4,1,2) share the edge of marks 1 and 2: "mark 0 then has two anchors", and mark 1 has one
-    ∷ (twoQuads asked Sibling 0 1 gives 0 ∷ 10 ∷ [])
+    ∷ (twoQuads asked Sibling 0 1 gives 0 ∷ 10 ∷ 1 ∷ [])
     ∷ (twoQuads asked Anchors 2 0 gives 0 ∷ 0 ∷ 8 ∷ [])
     ∷ (twoQuads asked Anchors 2 1 gives 0 ∷ 0 ∷ [])
     -- request 1: brick 1 on brick 0: 5 and 8 are siblings; the anchor of mark 4 is 1; a brick has six facets
-    ∷ (bricks asked Sibling 0 5 gives 0 ∷ 8 ∷ [])
-    ∷ (bricks asked Sibling 1 0 gives 0 ∷ 5 ∷ [])
+    ∷ (bricks asked Sibling 0 5 gives 0 ∷ 8 ∷ 2 ∷ [])
+    ∷ (bricks asked Sibling 1 0 gives 0 ∷ 5 ∷ 2 ∷ [])
     ∷ (bricks asked Anchors 3 4 gives 0 ∷ 1 ∷ [])
     ∷ (bricks asked Sibling 0 6 gives 13 ∷ [])
     -- a brick with wedge 1 at its side, 2 and 8, and pyramid 2 on its top in crossed order, 5 and 16; quad 3 there is no sibling of a face
@@ -174,12 +180,17 @@ rows =
     ∷ second (bricks asked Try (Insert 2 (bodyOf 5 (4 ∷ 6 ∷ 5 ∷ 7 ∷ 8 ∷ []))) gives 19 ∷ [])
     -- 10 comes before; two solids, a triangle on their face and a third triangle on an edge are accepted
     ∷ second (p6 asked Try (tetra 2 4 0 1 2) gives 10 ∷ [])
-    ∷ second (p6 asked Sibling 0 0 gives 0 ∷ 8 ∷ [])
+    ∷ second (p6 asked Sibling 0 0 gives 0 ∷ 8 ∷ 2 ∷ [])
     ∷ second (p6 asked Try (tri 2 0 1 2) gives 0 ∷ [])
-    ∷ second (p4 asked Sibling 2 0 gives 0 ∷ 0 ∷ [])
+    ∷ second (p4 asked Sibling 2 0 gives 0 ∷ 0 ∷ 1 ∷ [])
     -- and under edition 1 a third solid is
-    ∷ (threeTetras asked Sibling 1 0 gives 0 ∷ 16 ∷ [])
-    ∷ second (threeTetras asked Sibling 1 0 gives 0 ∷ 0 ∷ [])
+    ∷ (threeTetras asked Sibling 1 0 gives 0 ∷ 16 ∷ 1 ∷ [])
+    ∷ second (threeTetras asked Sibling 1 0 gives 0 ∷ 0 ∷ 2 ∷ [])
+    -- request 6: a border is lone; the end of two bars at one place is same; faces same by rotation, and in crossed order neither
+    ∷ (p2 asked Sibling 0 1 gives 0 ∷ 1 ∷ 0 ∷ [])
+    ∷ (bars asked Sibling 0 0 gives 0 ∷ 8 ∷ 1 ∷ [])
+    ∷ (twoTetras asked Sibling 0 0 gives 0 ∷ 8 ∷ 1 ∷ [])
+    ∷ (solids asked Sibling 0 5 gives 0 ∷ 16 ∷ 3 ∷ [])
     ∷ []
 
 -- a row holds: the mesh of its edits answers as it says

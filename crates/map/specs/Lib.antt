@@ -1,5 +1,6 @@
 pub mod Cells
 pub mod Siblings
+pub mod Ways
 pub mod Groups
 pub mod Stars
 pub mod Answers

@@ -16,6 +16,7 @@ use Rattle.map.specs.declared.Truth.the-variants as Truth′
 use Rattle.map.specs.declared.Built.{Built}
 use Rattle.map.specs.declared.Built.the-variants as Built′
 use Rattle.map.specs.Answers.{Answer}
+use Rattle.map.specs.Ways.{wayNumber}
 
 abbrev pub numberOf : Refusal → ℕ
 numberOf CapacityAbove = 1
@@ -50,7 +51,7 @@ valueSays (Value′.Is n) = given (n ∷ [])
 valueSays (Value′.Refused r) = refused r
 
 unfoldable pub halfSays : HalfAt → Answer
-halfSays (HalfAt′.At h) = given (h .0 ∷ [])
+halfSays (HalfAt′.At h way) = given (h .0 ∷ wayNumber way ∷ [])
 halfSays (HalfAt′.Refused r) = refused r
 
 unfoldable pub foundSays : Found → Answer

@@ -2,11 +2,12 @@
 //
 // What is here: in specs/ the definitions, over the live cells alone (Cells, Siblings, Groups, Stars), the
 // answers with their refusals in the listed order (Answers), the history (History) and the twelve cases (Cases); in
-// src/ the refusals and the answers as enums, each case with the outline's number in specs/Says.antt. What is proved:
-// `number_of` gives that number; the twelve cases hold (proofs/Cases.antt); an answer of the outline is that of one enum
-// value alone (proofs/Says.antt). What a caller should know: the laws of these definitions are in crate `laws`.
+// src/ the refusals, the ways of a sibling and the answers as enums, each case with the outline's number in specs/Says.antt
+// and specs/Ways.antt. What is proved: `number_of` and `way_number` give that number; the twelve cases hold
+// (proofs/Cases.antt); an answer of the outline is that of one enum value alone (proofs/Says.antt). What a caller should know: the laws of these definitions are in crate `laws`.
 ghost use mathlib.Core.Path.{_≡_};
 ghost use Rattle.map.specs.Says.{numberOf};
+ghost use Rattle.map.specs.Ways.{wayNumber};
 use numbers::Half;
 
 // Why a call is refused: a row of the outline's table each, in its order.
@@ -53,6 +54,26 @@ pub fn number_of(r: Refusal) -> u32
     }
 }
 
+// Which way the sibling of a half-facet runs.
+pub enum Way {
+    Lone,
+    Same,
+    Opposite,
+    Neither,
+}
+
+// The number of a way: "0 to 3 in that order".
+pub fn way_number(way: Way) -> u32
+    ensures { λ n. ⌜ n ≡ wayNumber way ⌝ }
+{
+    match way {
+        Way::Lone => 0,
+        Way::Same => 1,
+        Way::Opposite => 2,
+        Way::Neither => 3,
+    }
+}
+
 // The answer of a call that gives nothing back: format, insert, remove.
 pub enum Verdict {
     Accepted,
@@ -65,9 +86,9 @@ pub enum Value {
     Refused(Refusal),
 }
 
-// A half-facet: the sibling.
+// A half-facet and the way that it runs: the sibling.
 pub enum HalfAt {
-    At(Half),
+    At(Half, Way),
     Refused(Refusal),
 }
 

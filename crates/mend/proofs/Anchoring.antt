@@ -13,13 +13,16 @@ use Rattle.lists.proofs.Alike.{and-false}
 use Rattle.words.proofs.Frame.{only-none, only-then}
 use Rattle.numbers.specs.declared.Caps.{Caps}
 use Rattle.map.specs.Cells.{Map}
+use Rattle.map.specs.declared.Way.{Way}
 use Rattle.map.specs.Siblings.{isHalf, sibling}
+use Rattle.map.specs.Ways.{way}
 use Rattle.map.specs.Stars.{anchors}
 use Rattle.picture.specs.State.{State, next, mapWith, stateOf}
 use Rattle.picture.specs.Picture.{Pic}
 use Rattle.picture.specs.Changes.{withAnc}
 use Rattle.picture.specs.Step.{Step}
 use Rattle.picture.specs.Ready.{Ready, Settled}
+use Rattle.picture.proofs.Alike.{same-sib, same-way}
 use Rattle.star.specs.Listed.{Reads}
 use Rattle.group.specs.Group.{Around}
 use Rattle.mend.specs.Settle.{among, MaySettle, settled}
@@ -37,6 +40,10 @@ none-left m h = and-false (isHalf m h)
 live-sib : (m : Map) (h : ℕ) → isHalf m h ≡ true → stateOf m .sib h ≡ sibling m h
 unfolding stateOf
 live-sib m h e = rw e
+
+live-way : (m : Map) (h : ℕ) → isHalf m h ≡ true → stateOf m .way h ≡ way m h
+unfolding stateOf
+live-way m h e = rw e
 
 -- three words read, and then three put
 pub three-step : (caps : Caps) (rows : List (List (List ℕ))) (v x y z : ℕ) (w w₁ w₂ w₃ : List ℕ)
@@ -64,12 +71,16 @@ three-map caps s s′ v e =
     (λ (m : Map). withAnc (withAnc (withAnc s′ 1 v (stateOf m .anc 1 v)) 2 v (stateOf m .anc 2 v)) 3 v (stateOf m .anc 3 v)) e
 
 -- a state with the same cells, chains and siblings is settled too
-settled-same : (caps : Caps) (s s′ : State) → s′ .at ≡ s .at → s′ .chain ≡ s .chain → s′ .sib ≡ s .sib → Settled caps s → Settled caps s′
-settled-same caps s s′ a b c k = record {
+settled-same : (caps : Caps) (s s′ : State) → s′ .at ≡ s .at → s′ .chain ≡ s .chain → s′ .sib ≡ s .sib → s′ .way ≡ s .way → Settled caps s
+    → Settled caps s′
+settled-same caps s s′ a b c y k = record {
   ready = ready-same caps s s′ a b (k .ready);
   siblings = λ h e.
       ap (λ (f : ℕ → ℕ). f h) c
       ∙ (k .siblings h (ap (λ (m : Map). isHalf m h) (sym (same-map caps s s′ a)) ∙ e) ∙ ap (λ (m : Map). sibling m h) (sym (same-map caps s s′ a)));
+  ways = λ h e.
+      ap (λ (f : ℕ → Way). f h) y
+      ∙ (k .ways h (ap (λ (m : Map). isHalf m h) (sym (same-map caps s s′ a)) ∙ e) ∙ ap (λ (m : Map). way m h) (sym (same-map caps s s′ a)));
 }
 
 -- all siblings mended: settled
@@ -79,14 +90,20 @@ sibs-settled caps s s′ r x = record {
   siblings = λ h e.
       let maps = same-map caps s s′ (x .at) in
       let half : isHalf (mapWith caps s) h ≡ true = ap (λ (m : Map). isHalf m h) (sym maps) ∙ e in
-      x .right h (none-left (mapWith caps s) h) ∙ (live-sib (mapWith caps s) h half ∙ ap (λ (m : Map). sibling m h) (sym maps));
+      same-sib s′ (stateOf (mapWith caps s)) h (x .right h (none-left (mapWith caps s) h))
+      ∙ (live-sib (mapWith caps s) h half ∙ ap (λ (m : Map). sibling m h) (sym maps));
+  ways = λ h e.
+      let maps = same-map caps s s′ (x .at) in
+      let half : isHalf (mapWith caps s) h ≡ true = ap (λ (m : Map). isHalf m h) (sym maps) ∙ e in
+      same-way s′ (stateOf (mapWith caps s)) h (x .right h (none-left (mapWith caps s) h))
+      ∙ (live-way (mapWith caps s) h half ∙ ap (λ (m : Map). way m h) (sym maps));
 }
 
 module _ (caps : Caps) (rows : List (List (List ℕ))) (marks w : List ℕ) where
   pub anchors-start : Anchors caps rows marks w w (drop 0 marks)
   anchors-start = record {
     inside = only-none;
-    state = λ s p k. (s, p, record { at = refl; chain = refl; sib = refl; count = refl; right = λ d v a b e. k .ancs d v e });
+    state = λ s p k. (s, p, record { at = refl; chain = refl; sib = refl; way = refl; count = refl; right = λ d v a b e. k .ancs d v e });
   }
 
   pub anchors-more : (w′ w″ : List ℕ) (i v : ℕ) → v ≡ getD marks i 0 → Anchors caps rows marks w w′ (drop i marks) → i < length marks
@@ -108,7 +125,7 @@ module _ (caps : Caps) (rows : List (List (List ℕ))) (marks w : List ℕ) wher
 
       around : (s s′ : State) {left : List ℕ} → MayAnchor caps rows marks s → Ancs caps s s′ left → Around caps rows v s′
       around s s′ k x = record {
-        settled = settled-same caps s s′ (x .at) (x .chain) (x .sib) (k .settled);
+        settled = settled-same caps s s′ (x .at) (x .chain) (x .sib) (x .way) (k .settled);
         types = k .types;
         mark = k .inside v (rw e (at-has marks i h));
       }

@@ -14,10 +14,10 @@ use Rattle.numbers.specs.declared.Caps.{Caps}
 use Rattle.map.specs.Cells.{Map}
 use Rattle.map.specs.Siblings.{isHalf}
 use Rattle.picture.specs.State.{State, mapWith, stateOf}
-use Rattle.picture.specs.Picture.{Pic}
+use Rattle.picture.specs.Picture.{Pic, sibWord}
 use Rattle.picture.specs.Changes.{withAnc}
 use Rattle.picture.specs.Ready.{Ready, Settled}
-use Rattle.picture.proofs.Alike.{retold, pic-retold, state-same}
+use Rattle.picture.proofs.Alike.{retold, pic-retold, state-same, same-sib, same-way}
 use Rattle.mend.specs.Settle.{among, settled}
 use Rattle.mend.specs.Sibs.{Sibs}
 use Rattle.mend.specs.Ancs.{Ancs, threeAncs}
@@ -55,6 +55,7 @@ module _ (caps : Caps) (s : State) where
     at = p .at;
     chain = p .chain;
     sib = p .sib;
+    way = p .way;
     count = p .count;
     right = λ d u a b e. go d u a b e (ℕ-discrete v u);
   }
@@ -68,7 +69,7 @@ pub settled-pic : (w : List ℕ) (caps : Caps) (s s′ s″ : State) → Sibs ca
 unfolding settled has among any
 settled-pic w caps s s′ s″ p q pic =
     subst (λ (x : State). Pic w caps x) fields
-    (pic-retold caps s″ (s″ .sib) (stateOf (mapWith caps s) .anc) (s″ .count) (λ c f h. refl) (λ d v h. ancs d v (h .1 .0) (h .1 .1)) (λ t h. refl) w pic)
+    (pic-retold caps s″ (s″ .sib) (s″ .way) (stateOf (mapWith caps s) .anc) (s″ .count) (λ c f h. refl) (λ d v h. ancs d v (h .1 .0) (h .1 .1)) (λ t h. refl) w pic)
   where
     maps : mapWith caps s′ ≡ mapWith caps s
     maps = same-map caps s s′ (p .at)
@@ -76,10 +77,11 @@ settled-pic w caps s s′ s″ p q pic =
     ancs : (d v : ℕ) → 1 ≤ d → d ≤ 3 → s″ .anc d v ≡ stateOf (mapWith caps s) .anc d v
     ancs d v a b = q .right d v a b refl ∙ ap (λ (m : Map). stateOf m .anc d v) maps
 
-    sibs : (h : ℕ) → s′ .sib h ≡ stateOf (mapWith caps s) .sib h
+    sibs : (h : ℕ) → sibWord s′ h ≡ sibWord (stateOf (mapWith caps s)) h
     sibs h = p .right h (and-false (isHalf (mapWith caps s) h))
 
-    fields : retold s″ (s″ .sib) (stateOf (mapWith caps s) .anc) (s″ .count) ≡ settled caps s
+    fields : retold s″ (s″ .sib) (s″ .way) (stateOf (mapWith caps s) .anc) (s″ .count) ≡ settled caps s
     fields =
-        state-same (retold s″ (s″ .sib) (stateOf (mapWith caps s) .anc) (s″ .count)) (settled caps s) (q .at ∙ p .at) (q .chain ∙ p .chain)
-        (q .sib ∙ fun-ext sibs) refl (q .count ∙ p .count)
+        state-same (retold s″ (s″ .sib) (s″ .way) (stateOf (mapWith caps s) .anc) (s″ .count)) (settled caps s) (q .at ∙ p .at) (q .chain ∙ p .chain)
+        (q .sib ∙ fun-ext (λ h. same-sib s′ (stateOf (mapWith caps s)) h (sibs h)))
+        (q .way ∙ fun-ext (λ h. same-way s′ (stateOf (mapWith caps s)) h (sibs h))) refl (q .count ∙ p .count)

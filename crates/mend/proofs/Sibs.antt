@@ -3,7 +3,7 @@ use mathlib.Core.Path.{_≡_, refl, sym, ap, _∙_}
 use mathlib.Core.Bool.{Bool, true, false, cond, _&&_, _||_}
 use mathlib.Core.List.{List, [], _∷_}
 use mathlib.Core.Logic.{⊎-elim}
-use Prim.Native.Nat.{ℕ, _*_, _<_}
+use Prim.Native.Nat.{ℕ, _+_, _*_, _<_}
 use lib.ListN.{length}
 use Rattle.lists.specs.Lists.{has, any, sameSet, after}
 use Rattle.lists.proofs.Bools.{clash, either, not-true-false, and-left, and-right, and-both, or-left, or-right}
@@ -11,10 +11,12 @@ use Rattle.lists.proofs.Sets.{same-sym}
 use Rattle.numbers.specs.declared.Caps.{Caps}
 use Rattle.map.specs.Cells.{Map}
 use Rattle.map.specs.Siblings.{isHalf, Half, marksOf, sharers, siblings, sibling}
+use Rattle.map.specs.Ways.{wayNumber, way}
 use Rattle.map.specs.Sound.{Sound}
 use Rattle.laws.proofs.Cycles.{sharers-has, has-sharers, sharers-same}
 use Rattle.laws.proofs.Halves.{half-live}
 use Rattle.picture.specs.State.{State, mapWith, stateOf}
+use Rattle.picture.specs.Picture.{sibWord}
 use Rattle.sibling.specs.Shared.{mended}
 use Rattle.mend.specs.Settle.{among, MaySettle}
 use Rattle.mend.specs.Sibs.{Sibs}
@@ -24,13 +26,14 @@ module _ (caps : Caps) (s : State) where
   unfolding mapWith
   same-map s′ e = ap (λ (at : ℕ → _). record { caps = caps; at = at }) e
 
-  -- the next in a set is the sibling
+  -- the next in a set is the sibling, and the way is the sibling's
   after-right : (set : List ℕ) (h : ℕ) → has h (sharers (mapWith caps s) set) ≡ true
-      → after h (sharers (mapWith caps s) set) ≡ stateOf (mapWith caps s) .sib h
+      → 4 * after h (sharers (mapWith caps s) set) + wayNumber (way (mapWith caps s) h) ≡ sibWord (stateOf (mapWith caps s)) h
   unfolding stateOf sibling siblings
   after-right set h e =
       let r = sharers-has (mapWith caps s) set h e in
-      rw (r .0 .facet) (ap (after h) (sharers-same (mapWith caps s) set (marksOf (mapWith caps s) h) (r .1)))
+      rw (r .0 .facet)
+      (ap (λ (l : List ℕ). 4 * after h l + wayNumber (way (mapWith caps s) h)) (sharers-same (mapWith caps s) set (marksOf (mapWith caps s) h) (r .1)))
 
   module _ (sound : Sound (mapWith caps s)) where
     -- a half-facet that is not of this set is of none of the sets, if it is of none of the others
@@ -62,6 +65,7 @@ module _ (caps : Caps) (s : State) where
     }
       where
         go : (h : ℕ) → among (mapWith caps s) sets h ≡ false → (b : Bool) → has h (sharers (mapWith caps s) set) ≡ b
-            → cond b (after h (sharers (mapWith caps s) set)) (s′ .sib h) ≡ stateOf (mapWith caps s) .sib h
+            → 4 * cond b (after h (sharers (mapWith caps s) set)) (s′ .sib h) + wayNumber (cond b (way (mapWith caps s) h) (s′ .way h))
+            ≡ sibWord (stateOf (mapWith caps s)) h
         go h e true q = after-right set h q
         go h e false q = p .right h (left-out set sets h q e)

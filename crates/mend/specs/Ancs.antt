@@ -23,6 +23,7 @@ pub record Ancs (caps : Caps) (s s′ : State) (marks : List ℕ) : Type 0 where
   pub at : s′ .at ≡ s .at
   pub chain : s′ .chain ≡ s .chain
   pub sib : s′ .sib ≡ s .sib
+  pub way : s′ .way ≡ s .way
   pub count : s′ .count ≡ s .count
   pub right : (d v : ℕ) → 1 ≤ d → d ≤ 3 → has v marks ≡ false → s′ .anc d v ≡ stateOf (mapWith caps s) .anc d v
 

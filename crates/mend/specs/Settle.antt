@@ -11,6 +11,7 @@ use Rattle.numbers.specs.declared.Caps.{Caps}
 use Rattle.map.specs.Cells.{Map, setsOf}
 use Rattle.map.specs.Siblings.{isHalf, marksOf}
 use Rattle.picture.specs.State.{State, mapWith, stateOf}
+use Rattle.picture.specs.Picture.{sibWord}
 use Rattle.picture.specs.Ready.{Ready}
 
 -- the half-facet is live and has one of the sets
@@ -23,7 +24,7 @@ pub record MaySettle (caps : Caps) (rows : List (List (List ℕ))) (t : ℕ) (ma
   pub types : rows ≡ table
   pub count : length marks ≡ shape t .marks
   pub inside : (v : ℕ) → has v marks ≡ true → v < caps .marks
-  pub sibs : (h : ℕ) → among (mapWith caps s) (setsOf t marks) h ≡ false → s .sib h ≡ stateOf (mapWith caps s) .sib h
+  pub sibs : (h : ℕ) → among (mapWith caps s) (setsOf t marks) h ≡ false → sibWord s h ≡ sibWord (stateOf (mapWith caps s)) h
   pub ancs : (d v : ℕ) → has v marks ≡ false → s .anc d v ≡ stateOf (mapWith caps s) .anc d v
 
 -- all siblings and first anchors right
@@ -32,6 +33,7 @@ settled caps s = record {
   at = s .at;
   chain = s .chain;
   sib = stateOf (mapWith caps s) .sib;
+  way = stateOf (mapWith caps s) .way;
   anc = stateOf (mapWith caps s) .anc;
   count = s .count;
 }

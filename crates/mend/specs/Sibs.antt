@@ -5,6 +5,7 @@ use mathlib.Core.List.{List}
 use Prim.Native.Nat.{ℕ}
 use Rattle.numbers.specs.declared.Caps.{Caps}
 use Rattle.picture.specs.State.{State, mapWith, stateOf}
+use Rattle.picture.specs.Picture.{sibWord}
 use Rattle.mend.specs.Settle.{among}
 
 -- s′ is s with siblings right, but for the sets that are left
@@ -13,4 +14,4 @@ pub record Sibs (caps : Caps) (s s′ : State) (sets : List (List ℕ)) : Type 0
   pub chain : s′ .chain ≡ s .chain
   pub anc : s′ .anc ≡ s .anc
   pub count : s′ .count ≡ s .count
-  pub right : (h : ℕ) → among (mapWith caps s) sets h ≡ false → s′ .sib h ≡ stateOf (mapWith caps s) .sib h
+  pub right : (h : ℕ) → among (mapWith caps s) sets h ≡ false → sibWord s′ h ≡ sibWord (stateOf (mapWith caps s)) h

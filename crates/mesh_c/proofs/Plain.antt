@@ -23,7 +23,7 @@ value-quiet (Value.Refused why) some = refl
 
 half-quiet : Quiet halfSays
 unfolding halfSays given refused
-half-quiet (HalfAt.At h) some = absurd (some refl)
+half-quiet (HalfAt.At h way) some = absurd (some refl)
 half-quiet (HalfAt.Refused why) some = refl
 
 truth-quiet : Quiet truthSays

@@ -9,9 +9,10 @@ ghost use Rattle.numbers.specs.Sizes.{capsUnder, capacities};
 ghost use Rattle.map.specs.Answers.{cellChecks, halfChecks, starChecks, typeChecks, typeAnswer, siblingAnswer, borderAnswer, firstAnchorAnswer, lookupAnswer, countAnswer, editionAnswer};
 ghost use Rattle.map.specs.Cells.{bodyOf, cellsOf, neighbours};
 ghost use Rattle.map.specs.Siblings.{cycle};
+ghost use Rattle.map.specs.Ways.{cycleWays};
 ghost use Rattle.map.specs.Stars.{star, anchors};
 ghost use Rattle.map.specs.History.{Insert, Remove};
-ghost use Rattle.mesh_c.specs.Answered.{Answered, Sought, Listed, MarksTold, Judged};
+ghost use Rattle.mesh_c.specs.Answered.{Answered, Faced, Sought, Listed, ListedTwo, MarksTold, Judged};
 ghost use Rattle.mesh_c.specs.Changed.{Emptied, Raised, Changed};
 use ask::border;
 use ask::count_of_type;
@@ -142,26 +143,33 @@ pub extern "C" fn mk_marks(mesh: &[u32], cell: u32, at: &mut u32, count: &mut u3
     }
 }
 
-// The sibling of a half-facet.
+// The sibling of a half-facet, and the way that it runs.
 #[no_mangle]
-pub extern "C" fn mk_sibling(mesh: &[u32], cell: u32, facet: u32, half: &mut u32) -> u8
-    ensures { λ r. ⌜ Answered (now (mesh .entry)) (λ m. siblingAnswer m cell facet) (now (half .entry)) r (now (half .exit)) ⌝ }
+pub extern "C" fn mk_sibling(
+    mesh: &[u32],
+    cell: u32,
+    facet: u32,
+    half: &mut u32,
+    way: &mut u32,
+) -> u8
+    ensures { λ r. ⌜ Faced (now (mesh .entry)) (λ m. siblingAnswer m cell facet) (now (half .entry)) (now (way .entry)) r (now (half .exit)) (now (way .exit)) ⌝ }
 {
-    tell_half(sibling(mesh, Cell(cell), facet), half)
+    tell_half(sibling(mesh, Cell(cell), facet), half, way)
 }
 
-// The whole cycle of a half-facet, from it on.
+// The whole cycle of a half-facet, from it on, and beside each of it the way of its own sibling.
 #[no_mangle]
 pub extern "C" fn mk_cycle(
     mesh: &[u32],
     cell: u32,
     facet: u32,
     out: &mut [u32],
+    ways: &mut [u32],
     count: &mut u32,
 ) -> u8
-    ensures { λ r. ⌜ Listed (now (mesh .entry)) (λ m. halfChecks m cell facet) (λ m. cycle m (halfOf cell facet)) (now (out .entry)) (now (count .entry)) r (now (out .exit)) (now (count .exit)) ⌝ }
+    ensures { λ r. ⌜ ListedTwo (now (mesh .entry)) (λ m. halfChecks m cell facet) (λ m. cycle m (halfOf cell facet)) (λ m. cycleWays m (halfOf cell facet)) (now (out .entry)) (now (ways .entry)) (now (count .entry)) r (now (out .exit)) (now (ways .exit)) (now (count .exit)) ⌝ }
 {
-    tell_value(cycle(mesh, Cell(cell), facet, out), count)
+    tell_value(cycle(mesh, Cell(cell), facet, out, ways), count)
 }
 
 // Whether a half-facet is alone in its set: 1 or 0.

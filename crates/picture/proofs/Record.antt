@@ -13,11 +13,13 @@ use Rattle.words.proofs.Fits.{part-is}
 use Rattle.numbers.specs.declared.Caps.{Caps}
 use Rattle.store.specs.Layout.{nearMarks}
 use Rattle.store.specs.Fields.{Magic, MarkCap, CellCap, Count, Anchor, Code, Near, Sib, Far, cellPlace, headPlace}
-use Rattle.store.specs.Slots.{InHead, InMark, InCell, placeAt, address, read, codeIn, cornerIn, marksAt}
+use Rattle.store.specs.Slots.{InHead, InMark, InCell, placeAt, address, read, codeIn, cornerIn, marksAt, siblingIn, wayIn}
+use Rattle.map.specs.Ways.{wayAt}
+use Rattle.store.proofs.Ways.{packed-sibling, packed-way}
 use Rattle.store.specs.Open.{headIn, capsIn, isMesh}
 use Rattle.store.proofs.Marks.{corner-near, corner-far, marks-fit, mark-near, mark-far}
 use Rattle.picture.specs.State.{State}
-use Rattle.picture.specs.Picture.{Pic, corner, headWord, markWord, cellWord, wordOf}
+use Rattle.picture.specs.Picture.{Pic, corner, headWord, markWord, sibWord, cellWord, wordOf}
 use Rattle.shapes.specs.Sizes.{mostCode, mostFacets, mostMarks}
 
 -- beyond its marks a cell with at most four has none in its second part
@@ -37,9 +39,16 @@ module _ (w : List ℕ) (caps : Caps) (s : State) (p : Pic w caps s) where
   unfolding wordOf markWord
   anchor-read d v h a b = p .words (InMark v (Anchor d)) (h, (a, b))
 
-  pub sib-read : (h : ℕ) → h / 8 < caps .cells → h % 8 < mostFacets → read w caps (InCell (h / 8) (Sib (h % 8))) ≡ s .sib h
-  unfolding wordOf cellWord
-  sib-read h l f = p .words (InCell (h / 8) (Sib (h % 8))) (l, f) ∙ ap (s .sib) (omega arith)
+  module _ (h : ℕ) (l : h / 8 < caps .cells) (f : h % 8 < mostFacets) where
+    pub word-read : read w caps (InCell (h / 8) (Sib (h % 8))) ≡ sibWord s h
+    unfolding wordOf cellWord
+    word-read = p .words (InCell (h / 8) (Sib (h % 8))) (l, f) ∙ ap (sibWord s) (omega arith)
+
+    pub sib-read : siblingIn w caps h ≡ s .sib h
+    sib-read = ap (λ (n : ℕ). n / 4) word-read ∙ packed-sibling (s .sib h) (s .way h)
+
+    pub way-read : wayIn w caps h ≡ s .way h
+    way-read = ap (λ (n : ℕ). wayAt (n % 4)) word-read ∙ packed-way (s .sib h) (s .way h)
 
   module _ (c : ℕ) (h : c < caps .cells) where
     pub code-read : codeIn w caps c ≡ s .at c .code

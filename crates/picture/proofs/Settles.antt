@@ -17,7 +17,7 @@ map-of m = refl
 
 pub map-settled : (m : Map) → Sound m → Settled (m .caps) (stateOf m)
 unfolding mapWith stateOf holds
-map-settled m s = record { ready = record { sound = s; chains = λ v c. refl }; siblings = λ h e. rw e }
+map-settled m s = record { ready = record { sound = s; chains = λ v c. refl }; siblings = λ h e. rw e; ways = λ h e. rw e }
 
 -- well-formed memory is the picture of a settled state
 module _ (w : List ℕ) (caps : Caps) (m : Map) (e : m .caps ≡ caps) (wf : Wf w m) where

@@ -13,6 +13,7 @@ use Rattle.store.specs.Layout.{nearMarks, magic, room}
 use Rattle.store.specs.Fields.{HeadField, Magic, MarkCap, CellCap, Edition, Count, HeadRest, MarkField, First, Held, Anchor, MarkRest, CellField, Code, Near, Sib, Link, Far, CellRest}
 use Rattle.store.specs.Slots.{Slot, InHead, InMark, InCell, Within, read}
 use Rattle.map.specs.Cells.{Body, Map}
+use Rattle.map.specs.Ways.{wayNumber}
 use Rattle.map.specs.Sound.{Sound, TwoSolids}
 use Rattle.picture.specs.State.{State, next, stateOf}
 
@@ -55,11 +56,15 @@ markWord caps s v Held = length (chainOf caps s v)
 markWord caps s v (Anchor d) = s .anc d v
 markWord caps s v (MarkRest k) = 0
 
+-- the word of a half-facet: 4 × its sibling + the number of the way that it runs
+abbrev pub sibWord : State → ℕ → ℕ
+sibWord s h = 4 * s .sib h + wayNumber (s .way h)
+
 -- all marks stand in the second part where there are more than four
 unfoldable pub cellWord : Caps → State → ℕ → CellField → ℕ
 cellWord caps s c Code = s .at c .code
 cellWord caps s c (Near k) = corner s c k
-cellWord caps s c (Sib f) = s .sib (8 * c + f)
+cellWord caps s c (Sib f) = sibWord s (8 * c + f)
 cellWord caps s c (Link k) = linkWord caps s c k
 cellWord caps s c (Far k) = cond (ltb nearMarks (length (s .at c .marks))) (corner s c k) 0
 cellWord caps s c (CellRest p) = 0

@@ -12,7 +12,8 @@ ghost use Rattle.picture.specs.Changes.{withBody, withSib, withAnc, with
 ghost use Rattle.picture.specs.Step.{Step};
 ghost use Rattle.picture.specs.Writes.{MayWrite, Fills, Fars};
 ghost use Rattle.shapes.specs.Sizes.{mostCode, mostFacets};
-ghost use Rattle.store.specs.Layout.{nearMarks};
+ghost use Rattle.store.specs.Layout.{nearMarks, pastHalves};
+use map::Way;
 use numbers::Caps;
 use numbers::Cell;
 use numbers::Half;
@@ -41,11 +42,11 @@ pub fn put_count(w: &mut [u32], caps: Caps, t: u32, x: u32)
     write_count(w, caps, t, x);
 }
 
-// The sibling of a half-facet.
-pub fn put_sibling(w: &mut [u32], caps: Caps, h: Half, x: Half)
-    ensures { λ _. ⌜ Step caps (now (w .entry)) (now (w .exit)) (λ s. (h .0 / 8 < caps .cells) × (h .0 % 8 < mostFacets)) (λ s. withSib s (h .0) (x .0)) ⌝ }
+// The sibling of a half-facet, and the way that it runs.
+pub fn put_sibling(w: &mut [u32], caps: Caps, h: Half, x: Half, way: Way)
+    ensures { λ _. ⌜ Step caps (now (w .entry)) (now (w .exit)) (λ s. (h .0 / 8 < caps .cells) × (h .0 % 8 < mostFacets) × (x .0 < pastHalves)) (λ s. withSib s (h .0) (x .0) way) ⌝ }
 {
-    write_sibling(w, caps, h, x);
+    write_sibling(w, caps, h, x, way);
 }
 
 // The first four marks of a cell.

@@ -22,9 +22,10 @@ use Rattle.store.specs.Rests.{headBlank, markBlank}
 use Rattle.store.proofs.Rests.{rest-head, rest-mark, rest-cell}
 use Rattle.map.specs.Cells.{Map, live, holds, dimensionAt, facetsAt}
 use Rattle.map.specs.Siblings.{isHalf}
+use Rattle.map.specs.Ways.{wayNumber}
 use Rattle.laws.proofs.Facets.{facets-count}
 use Rattle.picture.specs.State.{State, mapWith, stateOf}
-use Rattle.picture.specs.Picture.{corner, linkWord, headWord, markWord, cellWord, wordOf, Pic, Wf}
+use Rattle.picture.specs.Picture.{corner, linkWord, headWord, markWord, sibWord, cellWord, wordOf, Pic, Wf}
 use Rattle.picture.proofs.Record.{code-read, corner-read, marks-read}
 use Rattle.picture.proofs.Settles.{wf-pic, wf-settled}
 use Rattle.facet.specs.Facet.{marksIn}
@@ -43,7 +44,7 @@ unfolding marksIn
 marks-is w caps s p c h fits = rw (code-read w caps s p c h, ← fits) (marks-read w caps s p c h (omega (arith, fits, facts (s .at c .code) .marks)))
 
 module _ (w : List ℕ) (caps : Caps) (s : State) (p : Pic w caps s) (u : Upright caps s)
-    (sibs : (c f : ℕ) → facetCount (s .at c .code) ≤ f → f < mostFacets → s .sib (8 * c + f) ≡ 0) where
+    (sibs : (c f : ℕ) → facetCount (s .at c .code) ≤ f → f < mostFacets → sibWord s (8 * c + f) ≡ 0) where
   told : (c : ℕ) → c < caps .cells → s .at c .marks ≡ marksIn w caps c
   told c h = sym (marks-is w caps s p c h (u .fitting c))
 
@@ -132,8 +133,8 @@ module _ (w : List ℕ) (caps : Caps) (s : State) (p : Pic w caps s) (u : Uprigh
       (at-every (cellRight w caps) (caps .cells) right-cell))
 
 -- behind the facets of a cell there is no half-facet, so no sibling
-facet-none : (m : Map) (c f : ℕ) → facetCount (m .at c .code) ≤ f → f < mostFacets → stateOf m .sib (8 * c + f) ≡ 0
-unfolding stateOf isHalf facetCount
+facet-none : (m : Map) (c f : ℕ) → facetCount (m .at c .code) ≤ f → f < mostFacets → sibWord (stateOf m) (8 * c + f) ≡ 0
+unfolding stateOf isHalf facetCount wayNumber
 facet-none m c f low less =
     let a : (8 * c + f) / 8 ≡ c = omega arith in
     let b : (8 * c + f) % 8 ≡ f = omega arith in

@@ -12,12 +12,13 @@ use Rattle.lists.specs.Lists.{has, repeats}
 use Rattle.lists.proofs.Members.{at-has}
 use Rattle.numbers.specs.declared.Caps.{Caps}
 use Rattle.store.specs.Fields.{Magic, MarkCap, CellCap, Edition, Count, HeadRest, First, Held, Anchor, MarkRest, Code, Near, Sib, Link, Far, CellRest}
-use Rattle.store.specs.Slots.{Slot, InHead, InMark, InCell, address, Within, read, codeIn}
+use Rattle.store.specs.Slots.{Slot, InHead, InMark, InCell, address, Within, read, codeIn, siblingIn, wayIn}
+use Rattle.store.proofs.Ways.{word-packed}
 use Rattle.store.specs.Open.{headIn}
 use Rattle.store.proofs.Rests.{head-rest, mark-rest, cell-rest}
 use Rattle.map.specs.Cells.{Body, bodyOf, noCell}
 use Rattle.picture.specs.State.{State}
-use Rattle.picture.specs.Picture.{chainOf, link, corner, linkWord, headWord, markWord, cellWord, wordOf, Pic}
+use Rattle.picture.specs.Picture.{chainOf, link, corner, linkWord, headWord, markWord, sibWord, cellWord, wordOf, Pic}
 use Rattle.chain.proofs.Places.{link-here}
 use Rattle.facet.specs.Facet.{marksIn}
 use Rattle.record_checks.specs.Laid.{farMark, meets, laidIn}
@@ -32,12 +33,13 @@ use Rattle.store.specs.Layout.{nearMarks}
 unfoldable pub bodySeen : List ℕ → Caps → ℕ → Body
 bodySeen w caps c = cond (ltb c (caps .cells)) (bodyOf (codeIn w caps c) (marksIn w caps c)) noCell
 
--- the chain of a mark is that of its holders; siblings, first anchors and live counts are as they are stored
+-- the chain of a mark is that of its holders; siblings and their ways, first anchors and live counts are as they are stored
 unfoldable pub seen : List ℕ → Caps → State
 seen w caps = record {
   at = bodySeen w caps;
   chain = λ v c. has v (bodySeen w caps c .marks);
-  sib = λ h. read w caps (InCell (h / 8) (Sib (h % 8)));
+  sib = siblingIn w caps;
+  way = wayIn w caps;
   anc = λ d v. read w caps (InMark v (Anchor d));
   count = λ t. read w caps (InHead (Count t));
 }
@@ -101,12 +103,12 @@ module _ (w : List ℕ) (caps : Caps) (hd : Headed w caps) (laid : laidIn w caps
     unfolding corner farMark
     far-seen k less = far-word w caps hd laid c h k less ∙ ap (λ (l : List ℕ). cond (ltb nearMarks (length l)) (getD l k 0) 0) (sym (marks-seen c h))
 
-    sib-seen : (f : ℕ) → f < mostFacets → read w caps (InCell c (Sib f)) ≡ seen w caps .sib (8 * c + f)
+    sib-seen : (f : ℕ) → f < mostFacets → read w caps (InCell c (Sib f)) ≡ sibWord (seen w caps) (8 * c + f)
     unfolding seen
     sib-seen f less =
         let a : (8 * c + f) / 8 ≡ c = omega arith in
         let b : (8 * c + f) % 8 ≡ f = omega arith in
-        rw (a, b)
+        rw (a, b) (sym (word-packed (read w caps (InCell c (Sib f)))))
 
     link-seen : (k : ℕ) → k < mostMarks → read w caps (InCell c (Link k)) ≡ linkWord caps (seen w caps) c k
     unfolding corner linkWord

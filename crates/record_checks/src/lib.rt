@@ -31,7 +31,7 @@ use store::head_blank;
 use store::held_of;
 use store::link_of;
 use store::mark_blank;
-use store::sibling_of;
+use store::sibling_word;
 use words::word;
 
 // No cell, or a type of the table.
@@ -95,14 +95,13 @@ fn corners_ok(w: &[u32], caps: Caps, c: Cell, marks: &[u32]) -> bool
     true
 }
 
-// Behind the facets of the type stands no sibling.
+// Behind the facets of the type stands no sibling, and no way.
 fn facets_ok(w: &[u32], caps: Caps, c: Cell, t: u32) -> bool
     ensures { λ r. ⌜ r ≡ every mostFacets (facetRight (now (w .entry)) caps (c .0) (facetCount t)) ⌝ }
 {
     let mut f = facet_count(t);
     while f < MOST_FACETS {
-        let h = sibling_of(w, caps, half_of(c, f));
-        if h.0 != 0 {
+        if sibling_word(w, caps, half_of(c, f)) != 0 {
             return false;
         }
         f += 1;

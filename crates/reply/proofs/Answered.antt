@@ -24,7 +24,9 @@ use Rattle.map.specs.declared.Value.the-variants as Value′
 use Rattle.map.specs.declared.HalfAt.{HalfAt}
 use Rattle.map.specs.declared.HalfAt.the-variants as HalfAt′
 use Rattle.numbers.specs.declared.Half.{Half}
+use Rattle.map.specs.declared.Way.{Way}
 use Rattle.map.specs.Cells.{Map, mapOf}
+use Rattle.map.specs.Ways.{wayNumber}
 use Rattle.map.specs.Sound.{Sound}
 use Rattle.map.specs.Stars.{star, anchors}
 use Rattle.map.specs.Answers.{Check, Answer, answer, listAnswer, formatChecks, starChecks, siblingAnswer, _when_}
@@ -36,7 +38,7 @@ use Rattle.format.specs.Formatted.{Formatted}
 use Rattle.mesh.specs.Edited.{Edited}
 use Rattle.ask.specs.Asked.{Asked}
 use Rattle.listing.specs.Listing.{Listing, listed}
-use Rattle.frames.specs.Frames.{Frame, Format, Change, Star, Anchors, Sibling, Bad, twoBytes, counted, cellAndFacet, replyTo, mapAfter, written}
+use Rattle.frames.specs.Frames.{Frame, Format, Change, Star, Anchors, Sibling, Bad, twoBytes, counted, cellAndFacet, siblingBytes, replyTo, mapAfter, written}
 use Rattle.frames.specs.Forms.{Appended}
 use Rattle.frames.proofs.Replies.{reply-above, reply-format, map-format, map-above, list-given, list-refused, reply-sibling, reply-sibling-refused, reply-bad}
 use Rattle.frames.proofs.Sizes.{verdict-length, half-length, cells-room, halves-room}
@@ -195,13 +197,14 @@ module _ (w o : List ℕ) (at r : ℕ) (o′ : List ℕ) where
       refl,
     ))
 
-    pub sibling-replied : (h : Half) → value ≡ HalfAt′.At h → Appended (written (given (cellAndFacet (h .0)))) o at r o′ → FrameAnswered (Sibling c f) w o at r w o′
+    pub sibling-replied : (h : Half) (x : Way) → value ≡ HalfAt′.At h x → Appended (written (given (siblingBytes (h .0) (wayNumber x)))) o at r o′
+        → FrameAnswered (Sibling c f) w o at r w o′
     unfolding mapAfter halfSays
-    sibling-replied h e a = record {
-      says = given (cellAndFacet (h .0));
-      few = omega (arith, half-length (h .0));
+    sibling-replied h x e a = record {
+      says = given (siblingBytes (h .0) (wayNumber x));
+      few = omega (arith, half-length (h .0) (wayNumber x));
       appended = a;
       kept = λ _. refl;
       within = only-none;
-      answers = λ m k. (sym (reply-sibling m c f (h .0) (ap halfSays (sym e) ∙ asked .answers m (k .wf))), k);
+      answers = λ m k. (sym (reply-sibling m c f (h .0) (wayNumber x) (ap halfSays (sym e) ∙ asked .answers m (k .wf))), k);
     }

@@ -98,7 +98,7 @@ fn reply_sibling(mesh: &[u32], c: Cell, f: u32, out: &mut [u8], at: usize) -> us
 {
     match ask::sibling(mesh, c, f) {
         HalfAt::Refused(why) => write_verdict(out, at, Verdict::Refused(why)),
-        HalfAt::At(h) => write_half(out, at, h),
+        HalfAt::At(h, way) => write_half(out, at, h, way),
     }
 }
 

@@ -2,3 +2,4 @@
 pub mod Along
 pub mod Written
 pub mod Mended
+pub mod Turned

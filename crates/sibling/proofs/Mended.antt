@@ -10,6 +10,8 @@ use borrow.Author.Tests.{ltb-true, eqb-true}
 use lib.Dec.{eqb}
 use lib.ListN.{getD, length, take, drop, List·getD-append}
 use lib.Seq.{take-suc, take-all, getD-append-add}
+use Rattle.shapes.specs.Shapes.{shape}
+use Rattle.shapes.specs.Table.{table}
 use Rattle.shapes.proofs.Facts.{facts}
 use Rattle.lists.specs.Lists.{has, after}
 use Rattle.lists.specs.Ascending.{Ascending}
@@ -18,45 +20,61 @@ use Rattle.lists.proofs.Members.{at-has, has-append, has-one}
 use Rattle.lists.proofs.Cyclic.{after-at}
 use Rattle.words.proofs.Frame.{only-none, only-then}
 use Rattle.numbers.specs.declared.Caps.{Caps}
-use Rattle.map.specs.Cells.{facetsAt}
-use Rattle.map.specs.Siblings.{isHalf, sharers}
-use Rattle.laws.proofs.Cycles.{sharers-has, sharers-ascend}
+use Rattle.map.specs.declared.Way.{Way}
+use Rattle.map.specs.declared.Way.the-variants.{Lone}
+use Rattle.map.specs.Cells.{Map, facetsAt}
+use Rattle.map.specs.Siblings.{isHalf, marksOf, sharers, siblings, sibling}
+use Rattle.map.specs.Ways.{between, way}
+use Rattle.laws.proofs.Cycles.{sharers-has, sharers-ascend, sharers-same}
+use Rattle.laws.proofs.Ways.{way-by}
 use Rattle.picture.specs.State.{State, mapWith}
+use Rattle.picture.specs.Picture.{Pic}
 use Rattle.picture.specs.Changes.{withSib}
 use Rattle.picture.specs.Step.{Step}
+use Rattle.picture.proofs.Alike.{state-same}
+use Rattle.store.specs.Layout.{pastHalves}
+use Rattle.facet.proofs.Read.{facet-read}
 use Rattle.sibling.specs.Shared.{Shared, MayMend, mended}
+use Rattle.sibling.specs.Ways.{facingIn}
 use Rattle.laws.proofs.Facets.{facets-count}
-use Rattle.numbers.specs.Sizes.{mostAround}
+use Rattle.numbers.specs.Sizes.{mostAround, mostCapacity}
 use Rattle.shapes.specs.Sizes.{mostFacets}
 
--- the first i half-facets of a list lead to the next of it
-unfoldable pub ledTo : List ℕ → ℕ → State → State
-ledTo l i s = record {
+-- the first i half-facets of a list lead to the next of it, and say which way that runs
+unfoldable pub ledTo : Map → List ℕ → ℕ → State → State
+ledTo m l i s = record {
   at = s .at;
   chain = s .chain;
   sib = λ h. cond (has h (take i l)) (after h l) (s .sib h);
+  way = λ h. cond (has h (take i l)) (way m h) (s .way h);
   anc = s .anc;
   count = s .count;
 }
 
-led-none : (l : List ℕ) (s : State) → ledTo l 0 s ≡ s
+led-none : (m : Map) (l : List ℕ) (s : State) → ledTo m l 0 s ≡ s
 unfolding ledTo has
-led-none l s = refl
+led-none m l s = refl
 
-led-more : (l : List ℕ) (i : ℕ) (s : State) → i < length l
-    → withSib (ledTo l i s) (getD l i 0) (after (getD l i 0) l) ≡ ledTo l (i + 1) s
+led-more : (m : Map) (l : List ℕ) (i : ℕ) (s : State) → i < length l
+    → withSib (ledTo m l i s) (getD l i 0) (after (getD l i 0) l) (way m (getD l i 0)) ≡ ledTo m l (i + 1) s
 unfolding ledTo withSib
-led-more l i s h =
-    ap (λ (f : ℕ → ℕ). record { at = s .at; chain = s .chain; sib = f; anc = s .anc; count = s .count })
-    (fun-ext (λ k. rw (add-one i, take-suc l i 0 h, has-append k (take i l) (getD l i 0 ∷ []), has-one k (getD l i 0))
-    (go k (eqb (getD l i 0) k) refl (has k (take i l)))))
+led-more m l i s h =
+    state-same (withSib (ledTo m l i s) x (after x l) (way m x)) (ledTo m l (i + 1) s) refl refl (fun-ext (λ k. more (λ h. after h l) (s .sib) k))
+    (fun-ext (λ k. more (way m) (s .way) k)) refl refl
   where
-    go : (k : ℕ) (b : Bool) → eqb (getD l i 0) k ≡ b → (c : Bool)
-        → cond b (after (getD l i 0) l) (cond c (after k l) (s .sib k)) ≡ cond (c || b) (after k l) (s .sib k)
-    go k true e true = ap (λ (h : ℕ). after h l) (eqb-true _ _ e)
-    go k true e false = ap (λ (h : ℕ). after h l) (eqb-true _ _ e)
-    go k false e true = refl
-    go k false e false = refl
+    x : ℕ
+    x = getD l i 0
+
+    go : {A : Type 0} (f was : ℕ → A) (k : ℕ) (b : Bool) → eqb x k ≡ b → (c : Bool) → cond b (f x) (cond c (f k) (was k)) ≡ cond (c || b) (f k) (was k)
+    go f was k true e true = ap f (eqb-true _ _ e)
+    go f was k true e false = ap f (eqb-true _ _ e)
+    go f was k false e true = refl
+    go f was k false e false = refl
+
+    more : {A : Type 0} (f was : ℕ → A) (k : ℕ)
+        → cond (eqb x k) (f x) (cond (has k (take i l)) (f k) (was k)) ≡ cond (has k (take (i + 1) l)) (f k) (was k)
+    more f was k =
+        rw (add-one i, take-suc l i 0 h, has-append k (take i l) (x ∷ []), has-one k x) (go f was k (eqb x k) refl (has k (take i l)))
 
 -- the place of the next: the next place, and for the last the first
 abbrev pub NextAt : ℕ → ℕ → ℕ → Type 0
@@ -91,33 +109,61 @@ sharer-word caps s set h e =
           (arith, ltb-true (h % 8) (length (facetsAt (mapWith caps s) (h / 8))) (x .0 .facet), facets-count (mapWith caps s) (h / 8), facts (mapWith caps s .at (h / 8) .code) .facets),
     )
 
+-- and its number is one that is stored whole
+sharer-whole : (caps : Caps) (s : State) (set : List ℕ) (h : ℕ) → caps .cells ≤ mostCapacity → has h (sharers (mapWith caps s) set) ≡ true → h < pastHalves
+unfolding mapWith
+sharer-whole caps s set h few e = omega (arith, few, sharers-has (mapWith caps s) set h e .0 .below)
+
+-- which way a half-facet runs beside another, read on the picture of a state
+module _ (w : List ℕ) (caps : Caps) (s : State) (p : Pic w caps s) (fits : (c : ℕ) → length (s .at c .marks) ≡ shape (s .at c .code) .marks) where
+  pub facing-read : (h x : ℕ) → h / 8 < caps .cells → x / 8 < caps .cells → facingIn w caps table h x ≡ cond (eqb h x) Lone (between (mapWith caps s) h x)
+  unfolding facingIn between marksOf
+  facing-read h x hc xc = rw (facet-read w caps s p (h / 8) hc (fits (h / 8)) (h % 8), facet-read w caps s p (x / 8) xc (fits (x / 8)) (x % 8))
+
+-- so of a half-facet and the next in its set, which is its sibling
+next-sibling : (m : Map) (set : List ℕ) (h : ℕ) → has h (sharers m set) ≡ true → after h (sharers m set) ≡ sibling m h
+unfolding sibling siblings
+next-sibling m set h e = ap (after h) (sharers-same m set (marksOf m h) (sharers-has m set h e .1))
+
 -- the sharers of a set, the first i of them mended
 abbrev pub mendedTo : Caps → List ℕ → ℕ → State → State
-mendedTo caps set i s = ledTo (sharers (mapWith caps s) set) i s
+mendedTo caps set i s = ledTo (mapWith caps s) (sharers (mapWith caps s) set) i s
 
 module _ (caps : Caps) (rows : List (List (List ℕ))) (set w : List ℕ) where
   pub mend-start : Step caps w w (MayMend caps rows set) (mendedTo caps set 0)
   mend-start = record { inside = only-none; state = λ s p ok. rw led-none p }
 
-  pub mend-more : (o halves : List ℕ) (n i to h x : ℕ) (w′ w″ : List ℕ) → Shared w caps rows set o n halves → length o ≡ mostAround
+  pub mend-more : (o halves : List ℕ) (n i to h x : ℕ) (y : Way) (w′ w″ : List ℕ) → Shared w caps rows set o n halves → length o ≡ mostAround
       → Step caps w w′ (MayMend caps rows set) (mendedTo caps set i) → i < n → NextAt n i to → h ≡ getD halves i 0 → x ≡ getD halves to 0
-      → Step caps w′ w″ (λ s. (h / 8 < caps .cells) × (h % 8 < mostFacets)) (λ s. withSib s h x)
+      → y ≡ facingIn w′ caps rows h x
+      → Step caps w′ w″ (λ s. (h / 8 < caps .cells) × (h % 8 < mostFacets) × (x < pastHalves)) (λ s. withSib s h x y)
       → Step caps w w″ (MayMend caps rows set) (mendedTo caps set (i + 1))
-  mend-more o halves n i to h x w′ w″ shared size was less place eh ex put = record {
+  unfolding mapWith ledTo
+  mend-more o halves n i to h x y w′ w″ shared size was less place eh ex ey put = record {
     inside = only-then (was .inside) (put .inside);
     state = λ s p ok.
-        let l = sharers (mapWith caps s) set in
+        let m = mapWith caps s in
+        let l = sharers m set in
         let c = shared .list s p (ok .ready) (ok .asked) in
         let room : n ≤ length o = omega (arith, shared .few) in
         let below : i < length l = omega (arith, c .count) in
         let half : h ≡ getD l i 0 = eh ∙ listed-at l o n halves c room i less in
         let there : has h l ≡ true = rw half (at-has l i below) in
-        let next : x ≡ after (getD l i 0) l =
-        ex
-        ∙ (listed-at l o n halves c room to (next-below n i to less place)
-        ∙ next-at l (sharers-ascend (mapWith caps s) set) n i to (c .count) less place) in
-        let more : withSib (mendedTo caps set i s) h x ≡ mendedTo caps set (i + 1) s = rw (half, next) (led-more l i s below) in
-        rw more at (put .state (mendedTo caps set i s) (was .state s p ok) (sharer-word caps s set h there));
+        let low : to < n = next-below n i to less place in
+        let other : x ≡ getD l to 0 = ex ∙ listed-at l o n halves c room to low in
+        let behind : has x l ≡ true = rw other (at-has l to (omega (arith, c .count))) in
+        let next : x ≡ after (getD l i 0) l = other ∙ next-at l (sharers-ascend m set) n i to (c .count) less place in
+        let pic : Pic w′ caps (mendedTo caps set i s) = was .state s p ok in
+        let word = sharer-word caps s set h there in
+        let beside = sharer-word caps s set x behind in
+        let onward : x ≡ sibling m h = next ∙ (rw (sym half) (next-sibling m set h there)) in
+        let read : y ≡ cond (eqb h x) Lone (between m h x) =
+        ey
+        ∙ (ap (λ (r : List (List (List ℕ))). facingIn w′ caps r h x) (ok .asked .types)
+        ∙ facing-read w′ caps (mendedTo caps set i s) pic (ok .ready .sound .fitting) h x (word .0) (beside .0)) in
+        let runs : y ≡ way m h = read ∙ way-by m h (sharers-has m set h there .0) x onward in
+        let more : withSib (mendedTo caps set i s) h x y ≡ mendedTo caps set (i + 1) s = rw (runs, half, next) (led-more m l i s below) in
+        rw more at (put .state (mendedTo caps set i s) pic (word .0, word .1, sharer-whole caps s set x (p .cells) behind));
   }
 
   pub mend-end : (n i : ℕ) (o halves w′ : List ℕ) → Shared w caps rows set o n halves

@@ -9,6 +9,7 @@ use Rattle.lists.specs.Filled.{Copied}
 use Rattle.shapes.specs.Table.{table}
 use Rattle.numbers.specs.declared.Caps.{Caps}
 use Rattle.map.specs.Siblings.{sharers}
+use Rattle.map.specs.Ways.{way}
 use Rattle.picture.specs.State.{State, mapWith}
 use Rattle.picture.specs.Picture.{Pic}
 use Rattle.picture.specs.Ready.{Ready}
@@ -26,12 +27,13 @@ pub record Shared (w : List ℕ) (caps : Caps) (rows : List (List (List ℕ))) (
   pub size : length o′ ≡ length o
   pub list : (s : State) → Pic w caps s → Ready caps s → SetInside caps rows set → Copied (sharers (mapWith caps s) set) o r o′
 
--- the siblings of a set: each of its half-facets leads to the next
+-- the siblings of a set: each of its half-facets leads to the next, and says which way that runs
 unfoldable pub mended : Caps → List ℕ → State → State
 mended caps set s = record {
   at = s .at;
   chain = s .chain;
   sib = λ h. cond (has h (sharers (mapWith caps s) set)) (after h (sharers (mapWith caps s) set)) (s .sib h);
+  way = λ h. cond (has h (sharers (mapWith caps s) set)) (way (mapWith caps s) h) (s .way h);
   anc = s .anc;
   count = s .count;
 }

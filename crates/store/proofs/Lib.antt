@@ -3,6 +3,7 @@ pub mod Fields
 pub mod Slots
 pub mod Marks
 pub mod Writes
+pub mod Ways
 pub mod Opens
 pub mod Heads
 pub mod Rests

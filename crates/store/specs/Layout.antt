@@ -4,7 +4,7 @@ unfoldable pub use Rattle.numbers.specs.Room.{room}
 
 -- the first word of a mesh
 unfoldable pub magic : ℕ
-magic = 1296780362
+magic = 1296780363
 
 -- the words of the head, of a mark's record, of each part of a cell's
 abbrev pub headWords : ℕ
@@ -19,6 +19,10 @@ partWords = 16
 -- a cell of at most so many marks has them in its first part
 abbrev pub nearMarks : ℕ
 nearMarks = 4
+
+-- half-facets are numbered below this, whatever the capacity
+abbrev pub pastHalves : ℕ
+pastHalves = 524288
 
 -- a mark's record
 unfoldable pub markAt : ℕ → ℕ

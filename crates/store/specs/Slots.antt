@@ -1,11 +1,13 @@
 -- A word of the room by its record and its field; what is read there, and what is written.
 use mathlib.Core.Bool.{Bool, true, false, cond, _&&_}
 use mathlib.Core.List.{List}
-use Prim.Native.Nat.{ℕ, _+_, _<_}
+use Prim.Native.Nat.{ℕ, _+_, _*_, _/_, _%_, _<_}
 use lib.Dec.{leb, ltb}
 use lib.ListN.{getD, set}
 use Rattle.numbers.specs.declared.Caps.{Caps}
-use Rattle.store.specs.Layout.{nearMarks, markAt, nearAt, farAt}
+use Rattle.map.specs.declared.Way.{Way}
+use Rattle.map.specs.Ways.{wayNumber, wayAt}
+use Rattle.store.specs.Layout.{nearMarks, pastHalves, markAt, nearAt, farAt}
 use Rattle.store.specs.Fields.{HeadField, Magic, MarkCap, CellCap, Edition, Count, HeadRest, MarkField, First, Held, Anchor, MarkRest, CellField, Code, Near, Sib, Link, Far, CellRest, Place, InNear, InFar, headPlace, markPlace, cellPlace, HeadFits, MarkFits, CellFits}
 use Rattle.shapes.specs.Sizes.{mostCode, mostFacets, mostMarks}
 
@@ -76,3 +78,14 @@ cornerIn w caps c k = cond (ltb k nearMarks) (read w caps (InCell c (Near k))) (
 -- where the first n marks of a cell stand side by side
 unfoldable pub marksAt : Caps → ℕ → ℕ → ℕ
 marksAt caps c n = cond (leb n nearMarks) (address (caps .marks) (caps .cells) (InCell c (Near 0))) (address (caps .marks) (caps .cells) (InCell c (Far 0)))
+
+-- the word of a half-facet: 4 × its sibling + the number of the way that it runs
+abbrev pub packed : ℕ → Way → ℕ
+packed x way = 4 * (x % pastHalves) + wayNumber way
+
+-- the sibling of a half-facet, and the way that it runs
+abbrev pub siblingIn : List ℕ → Caps → ℕ → ℕ
+siblingIn w caps h = read w caps (InCell (h / 8) (Sib (h % 8))) / 4
+
+abbrev pub wayIn : List ℕ → Caps → ℕ → Way
+wayIn w caps h = wayAt (read w caps (InCell (h / 8) (Sib (h % 8))) % 4)

@@ -13,9 +13,11 @@ ghost use Rattle.lists.specs.Lists.{all};
 ghost use Rattle.words.specs.Words.{Part};
 ghost use Rattle.store.specs.Layout.{room, headWords, markWords, partWords};
 ghost use Rattle.store.specs.Fields.{Count, First, Held, Anchor, Code, Near, Sib, Link, Far};
-ghost use Rattle.store.specs.Slots.{InHead, InMark, InCell, read, written, cornerIn, marksAt};
+ghost use Rattle.store.specs.Slots.{InHead, InMark, InCell, read, written, cornerIn, marksAt, siblingIn, wayIn, packed};
 ghost use Rattle.store.specs.Rests.{headBlank, markBlank, cellBlank};
 ghost use Rattle.store.specs.Open.{opened, headed};
+use map::Way;
+use map::way_number;
 use numbers::Caps;
 use numbers::Cell;
 use numbers::Half;
@@ -32,7 +34,7 @@ use words::put;
 use words::word;
 
 // The first word of a mesh.
-pub const MAGIC: u32 = 1296780362;
+pub const MAGIC: u32 = 1296780363;
 
 // The words of the head, of a mark's record, of each part of a cell's, of both.
 pub const HEAD: usize = 16;
@@ -45,6 +47,9 @@ const CELL_WORDS: usize = 32;
 
 // A cell of at most so many marks has them in its first part.
 pub const NEAR_MARKS: u32 = 4;
+
+// Half-facets are numbered below this, whatever the capacity.
+const PAST_HALVES: u32 = 524288;
 
 // What memory is.
 pub enum Opened {
@@ -268,15 +273,34 @@ pub fn write_far(w: &mut [u32], caps: Caps, c: Cell, k: u32, x: u32)
     put(w, far_at(caps, c) + k as usize, x);
 }
 
-// The sibling of a half-facet.
-pub fn sibling_of(w: &[u32], caps: Caps, h: Half) -> Half
-    ensures { λ r. ⌜ r .0 ≡ read (now (w .entry)) caps (InCell (h .0 / 8) (Sib (h .0 % 8))) ⌝ }
+// The word of a half-facet: its sibling and the way that it runs.
+pub fn sibling_word(w: &[u32], caps: Caps, h: Half) -> u32
+    ensures { λ r. ⌜ r ≡ read (now (w .entry)) caps (InCell (h .0 / 8) (Sib (h .0 % 8))) ⌝ }
 {
-    Half(word(w, near_at(caps, cell_of(h)) + (5 + (facet_of(h) as usize))))
+    word(w, near_at(caps, cell_of(h)) + (5 + (facet_of(h) as usize)))
 }
 
-pub fn write_sibling(w: &mut [u32], caps: Caps, h: Half, x: Half)
-    ensures { λ _. ⌜ now (w .exit) ≡ written (now (w .entry)) caps (InCell (h .0 / 8) (Sib (h .0 % 8))) (x .0) ⌝ }
+// The sibling of a half-facet.
+pub fn sibling_of(w: &[u32], caps: Caps, h: Half) -> Half
+    ensures { λ r. ⌜ r .0 ≡ siblingIn (now (w .entry)) caps (h .0) ⌝ }
+{
+    Half(sibling_word(w, caps, h) / 4)
+}
+
+// The way that it runs.
+pub fn way_of(w: &[u32], caps: Caps, h: Half) -> Way
+    ensures { λ r. ⌜ r ≡ wayIn (now (w .entry)) caps (h .0) ⌝ }
+{
+    match sibling_word(w, caps, h) % 4 {
+        0 => Way::Lone,
+        1 => Way::Same,
+        2 => Way::Opposite,
+        _ => Way::Neither,
+    }
+}
+
+pub fn write_sibling(w: &mut [u32], caps: Caps, h: Half, x: Half, way: Way)
+    ensures { λ _. ⌜ now (w .exit) ≡ written (now (w .entry)) caps (InCell (h .0 / 8) (Sib (h .0 % 8))) (packed (x .0) way) ⌝ }
 {
     let c = cell_of(h);
     let f = facet_of(h);
@@ -286,7 +310,11 @@ pub fn write_sibling(w: &mut [u32], caps: Caps, h: Half, x: Half)
     if MOST_FACETS <= f {
         return;
     }
-    put(w, near_at(caps, c) + (5 + (f as usize)), x.0);
+    put(
+        w,
+        near_at(caps, c) + (5 + (f as usize)),
+        4 * (x.0 % PAST_HALVES) + way_number(way),
+    );
 }
 
 // The link at a corner of a cell.

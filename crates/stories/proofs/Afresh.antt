@@ -20,7 +20,7 @@ use Rattle.laws.proofs.Rebuild.{afresh-built}
 use Rattle.picture.specs.Picture.{Wf}
 use Rattle.picture.proofs.Put.{wf-one}
 use Rattle.ask.specs.Asked.{Asked, Handed}
-use Rattle.listing.specs.Listing.{Listing}
+use Rattle.listing.specs.Listing.{Listing, Paired}
 use Rattle.build.specs.Builds.{placed, formatRefusal, buildAnswer, Builds}
 use Rattle.whole.specs.Whole.{Whole}
 use Rattle.whole.proofs.One.{whole-yes}
@@ -44,6 +44,13 @@ module _ {a b : List ℕ} {m : Map} (x : Wf a m) (y : Wf b m) where
       let u = p .answers m x in
       let v = q .answers m y in
       (value-one r r′ (u .0 ∙ sym (v .0)), u .1 ∙ sym (v .1))
+
+  pub paired-alike : {checks : Map → List Check} {list beside : Map → List ℕ} {o p o′ p′ o″ p″ : List ℕ} {r r′ : Value}
+      → Paired a checks list beside o p r o′ p′ → Paired b checks list beside o p r′ o″ p″ → (r ≡ r′) × (o′ ≡ o″) × (p′ ≡ p″)
+  paired-alike {r = r} {r′} p q =
+      let u = p .entries .answers m x in
+      let v = q .entries .answers m y in
+      (value-one r r′ (u .0 ∙ sym (v .0)), u .1 ∙ sym (v .1), p .words .answers m x .1 ∙ sym (q .words .answers m y .1))
 
 -- a format of capacities within the limits, of an edition that there is, in memory as long as the room is accepted
 format-good : (words : ℕ) (caps : Caps) → caps .marks ≤ mostCapacity → caps .cells ≤ mostCapacity → isEdition (caps .edition) ≡ true
@@ -86,6 +93,11 @@ module _ {w : List ℕ} {m : Map} (s : Story w m) (other : List Live) (order : S
   pub afresh-listed : {checks : Map → List Check} {list : Map → List ℕ} {o o′ o″ : List ℕ} {x y : Value}
       → Listing w checks list o x o′ → Listing b′ checks list o y o″ → (x ≡ y) × (o′ ≡ o″)
   afresh-listed = listed-alike (story-wf s) afresh-wf
+
+  -- and so do two lists side by side
+  pub afresh-paired : {checks : Map → List Check} {list beside : Map → List ℕ} {o p o′ p′ o″ p″ : List ℕ} {x y : Value}
+      → Paired w checks list beside o p x o′ p′ → Paired b′ checks list beside o p y o″ p″ → (x ≡ y) × (o′ ≡ o″) × (p′ ≡ p″)
+  afresh-paired = paired-alike (story-wf s) afresh-wf
 
   -- the whole check says yes of it
   pub afresh-whole : {x : Bool} → Whole b′ x → x ≡ true

@@ -7,13 +7,16 @@ use native.Mathlib.Omega.{arith}
 use borrow.Author.Tests.{ltb-true}
 use lib.Dec.{ltb}
 use lib.ListN.{getD, length}
-use Rattle.lists.specs.Lists.{has, place}
+use Rattle.lists.specs.Lists.{has, place, sameSet}
+use Rattle.lists.proofs.Sets.{same-has}
 use Rattle.lists.proofs.Members.{at-has}
 use Rattle.numbers.specs.declared.Caps.{Caps}
 use Rattle.store.specs.Fields.{MarkField, First, Held, Anchor, MarkRest, CellField, Code, Near, Sib, Link, Far, CellRest, CellFits}
 use Rattle.store.specs.Slots.{Slot, InMark, InCell, Within, read}
 use Rattle.map.specs.Cells.{Body, Map, holds}
 use Rattle.map.specs.Siblings.{isHalf, marksOf, sibling}
+use Rattle.map.specs.declared.Way.the-variants.{Lone}
+use Rattle.map.specs.Ways.{wayNumber, way}
 use Rattle.map.specs.Stars.{holders}
 use Rattle.map.specs.Answers.{Answer}
 use Rattle.map.specs.History.{Edit, cellOf, editBody, editAnswer, changed}
@@ -21,9 +24,11 @@ use Rattle.map.specs.Sound.{Sound}
 use Rattle.map.specs.Says.{verdictSays, given}
 use Rattle.map.specs.declared.Verdict.the-variants.{Accepted}
 use Rattle.laws.proofs.Edits.{edited-changed}
-use Rattle.laws.proofs.Local.{Apart, Free, half-other, holds-other, holders-free, half-inside, sibling-free, anchors-free, apart-changed, free-changed}
+use Rattle.laws.proofs.Local.{Apart, Free, half-other, holds-other, holders-free, half-inside, facets-lack, sibling-free, anchors-free, apart-changed, free-changed}
+use Rattle.laws.proofs.Halves.{half-live}
+use Rattle.laws.proofs.Ways.{way-other}
 use Rattle.picture.specs.State.{stateOf}
-use Rattle.picture.specs.Picture.{chainOf, ahead, linkTo, link, corner, linkWord, markWord, cellWord, wordOf, Wf}
+use Rattle.picture.specs.Picture.{chainOf, ahead, linkTo, link, corner, linkWord, markWord, sibWord, cellWord, wordOf, Wf}
 use Rattle.picture.proofs.Bodies.{ahead-there}
 use Rattle.mesh.specs.Edited.{Edited}
 use Rattle.stories.specs.Records.{SameMark, SameCell}
@@ -72,17 +77,22 @@ module _ (m m′ : Map) (c : ℕ) (a : Apart m m′ c) where
     unfolding stateOf
     at-kept = a .other x n
 
-    -- each of its half-facets has the same sibling
-    sib-kept : (h : ℕ) → h / 8 ≡ x → stateOf m′ .sib h ≡ stateOf m .sib h
+    -- each of its half-facets has the same sibling, which runs the same way
+    sib-kept : (h : ℕ) → h / 8 ≡ x → sibWord (stateOf m′) h ≡ sibWord (stateOf m) h
     unfolding stateOf
     sib-kept h z = rw (half-other m m′ c a h (λ q. n (sym z ∙ q)) .0) (go (isHalf m h) refl)
       where
-        go : (b : Bool) → isHalf m h ≡ b → cond b (sibling m′ h) 0 ≡ cond b (sibling m h) 0
+        go : (b : Bool) → isHalf m h ≡ b
+            → 4 * cond b (sibling m′ h) 0 + wayNumber (cond b (way m′ h) Lone) ≡ 4 * cond b (sibling m h) 0 + wayNumber (cond b (way m h) Lone)
         go true e =
             let v : ℕ = getD (marksOf m h) 0 0 in
             let here : has v (marksOf m h) ≡ true = half-mark m s h e in
             let held : holds m v x ≡ true = rw z at (half-inside m (a .fitting) h v here) in
-            sibling-free m m′ c a v (free v held) h here .0
+            let only : (set : List ℕ) → sameSet (marksOf m h) set ≡ true → has v set ≡ true = λ set same. sym (same-has (marksOf m h) set same v) ∙ here in
+            let ran : way m′ h ≡ way m h =
+            way-other m m′ c a h (λ q. n (sym z ∙ q)) (half-live m s h e) (facets-lack m c (a .fitting c) v (free v held .0) (sameSet (marksOf m h)) only)
+            (facets-lack m′ c (a .fitting′ c) v (free v held .1) (sameSet (marksOf m h)) only) in
+            rw (sibling-free m m′ c a v (free v held) h here .0, ran)
         go false e = refl
 
     -- and each of its corners the same link

@@ -1,9 +1,9 @@
--- What one record fixes, in any two well-formed memories: a cell's record its siblings, a mark's record its first anchors. And the head's
--- live counts.
+-- What one record fixes, in any two well-formed memories: a cell's record its siblings and their ways, a mark's record its first anchors. And
+-- the head's live counts.
 use mathlib.Core.Path.{_≡_, refl, sym, ap, ap₂, _∙_}
 use mathlib.Core.Bool.{Bool, true, false, cond, not, _||_}
 use mathlib.Core.List.{List, [], _∷_}
-use Prim.Native.Nat.{ℕ, _+_, _<_, _≤_}
+use Prim.Native.Nat.{ℕ, _+_, _/_, _%_, _<_, _≤_}
 use native.Mathlib.Decide.{decLt}
 use native.Mathlib.Omega.{arith}
 use borrow.Author.Tests.{le-leb, lt-leb, lt-ltb}
@@ -21,13 +21,15 @@ use Rattle.store.specs.Fields.{Count, Anchor, markPlace, Place, InNear, InFar, 
 use Rattle.store.specs.Slots.{InHead, InCell, placeAt, address, read}
 use Rattle.map.specs.Cells.{Map, live, cellsOf}
 use Rattle.map.specs.Siblings.{sibling}
+use Rattle.map.specs.declared.Way.{Way}
+use Rattle.map.specs.Ways.{wayNumber, wayAt, way}
 use Rattle.map.specs.Stars.{anchors}
 use Rattle.map.specs.Answers.{Check, Answer, _when_, answer, cellChecks, halfChecks, starChecks, siblingAnswer, firstAnchorAnswer}
 use Rattle.picture.specs.State.{next, stateOf}
 use Rattle.picture.specs.Picture.{Wf}
 use Rattle.picture.proofs.Record.{count-read}
 use Rattle.checks.proofs.Rows.{code-of}
-use Rattle.ask.proofs.Words.{sibling-is, anchor-is}
+use Rattle.ask.proofs.Words.{sibling-is, way-is, anchor-is}
 
 -- two lists with the same first as number + 1 have the same first
 next-one : (a b : List ℕ) → next a ≡ next b → take 1 a ≡ take 1 b
@@ -57,13 +59,17 @@ wordIn : Place → ℕ
 wordIn (InNear k) = k
 wordIn (InFar k) = k
 
--- the sibling of each facet of a cell stands in its record
+-- the sibling of each facet of a cell stands in its record, and the way that it runs
 sibling-in : {w : List ℕ} {m : Map} → Wf w m → (c : ℕ) → c < m .caps .cells → (f : ℕ) → f < facetCount (m .at c .code)
-    → (f < mostFacets) × (read w (m .caps) (InCell c (Sib f)) ≡ sibling m (halfOf c f))
+    → (f < mostFacets) × (read w (m .caps) (InCell c (Sib f)) / 4 ≡ sibling m (halfOf c f))
+    × (wayAt (read w (m .caps) (InCell c (Sib f)) % 4) ≡ way m (halfOf c f))
 unfolding facetCount
 sibling-in {w} {m} wf c below f h =
-    let few : f < mostFacets = omega (arith, facts (m .at c .code) .facets) in
-    (few, rw (half-cell c f (omega arith), half-facet c f (omega arith)) at (sibling-is w (m .caps) m refl wf c f below h))
+    let few : f < mostFacets = omega (arith, facts (m .at c .code) .facets) in (
+      few,
+      rw (half-cell c f (omega arith), half-facet c f (omega arith)) at (sibling-is w (m .caps) m refl wf c f below h),
+      rw (half-cell c f (omega arith), half-facet c f (omega arith)) at (way-is w (m .caps) m refl wf c f below h),
+    )
 
 module _ {w w′ : List ℕ} {m m′ : Map} (wf : Wf w m) (wf′ : Wf w′ m′) where
   -- one cell number, below both capacities, with the same 16 words in the first part of both records
@@ -76,13 +82,24 @@ module _ {w w′ : List ℕ} {m m′ : Map} (wf : Wf w m) (wf′ : Wf w′ m′)
         sym (code-of (m .caps) m refl w wf c below)
         ∙ (same (wordIn (cellPlace Code)) (omega arith) ∙ code-of (m′ .caps) m′ refl w′ wf′ c below′)
 
-    -- and each of its facets has the same sibling in both
-    pub sibling-fixed : (f : ℕ) → f < facetCount (m .at c .code) → sibling m (halfOf c f) ≡ sibling m′ (halfOf c f)
+    -- and each of its facets has the same word in both
+    word-fixed : (f : ℕ) → f < mostFacets → read w (m .caps) (InCell c (Sib f)) ≡ read w′ (m′ .caps) (InCell c (Sib f))
     unfolding read address placeAt cellPlace wordIn
+    word-fixed f few = same (wordIn (cellPlace (Sib f))) (omega arith)
+
+    -- so the same sibling
+    pub sibling-fixed : (f : ℕ) → f < facetCount (m .at c .code) → sibling m (halfOf c f) ≡ sibling m′ (halfOf c f)
     sibling-fixed f h =
         let here = sibling-in wf c below f h in
         let there = sibling-in wf′ c below′ f (rw (← code-fixed) h) in
-        sym (here .1) ∙ (same (wordIn (cellPlace (Sib f))) (omega (arith, here .0)) ∙ there .1)
+        sym (here .1) ∙ (ap (λ (x : ℕ). x / 4) (word-fixed f (here .0)) ∙ there .1)
+
+    -- which runs the same way: "it is fixed by the cell's record as the sibling is"
+    pub way-fixed : (f : ℕ) → f < facetCount (m .at c .code) → way m (halfOf c f) ≡ way m′ (halfOf c f)
+    way-fixed f h =
+        let here = sibling-in wf c below f h in
+        let there = sibling-in wf′ c below′ f (rw (← code-fixed) h) in
+        sym (here .2) ∙ (ap (λ (x : ℕ). wayAt (x % 4)) (word-fixed f (here .0)) ∙ there .2)
 
     -- the checks of a half-facet come out the same
     checks-fixed : (f : ℕ) → halfChecks m c f ≡ halfChecks m′ c f
@@ -100,10 +117,10 @@ module _ {w w′ : List ℕ} {m m′ : Map} (wf : Wf w m) (wf′ : Wf w′ m′)
     sibling-answer-fixed f = go (decLt f (facetCount (m .at c .code)))
       where
         go : Dec (f < facetCount (m .at c .code)) → siblingAnswer m c f ≡ siblingAnswer m′ c f
-        go (yes h) = ap₂ answer (checks-fixed f) (ap (λ (n : ℕ). n ∷ []) (sibling-fixed f h))
+        go (yes h) = ap₂ answer (checks-fixed f) (ap₂ (λ (n : ℕ) (x : Way). n ∷ wayNumber x ∷ []) (sibling-fixed f h) (way-fixed f h))
         go (no n) =
             moot (halfChecks m c f) _ _ (facet-fails f (le-leb (facetCount (m .at c .code)) f (omega arith)))
-            ∙ ap (λ (checks : List Check). answer checks (sibling m′ (halfOf c f) ∷ [])) (checks-fixed f)
+            ∙ ap (λ (checks : List Check). answer checks (sibling m′ (halfOf c f) ∷ wayNumber (way m′ (halfOf c f)) ∷ [])) (checks-fixed f)
 
   -- one mark number, below both capacities, with the same 8 words in both records
   module _ (v : ℕ) (below : v < m .caps .marks) (below′ : v < m′ .caps .marks)

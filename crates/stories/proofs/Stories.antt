@@ -3,7 +3,7 @@
 use mathlib.Core.Path.{_≡_, refl}
 use mathlib.Core.Bool.{Bool, true}
 use mathlib.Core.List.{List}
-use Prim.Native.Nat.{ℕ}
+use Prim.Native.Nat.{ℕ, min}
 use lib.ListN.{length}
 use Rattle.map.specs.Cells.{Map}
 use Rattle.map.specs.Answers.{Check, Answer, listAnswer}
@@ -11,7 +11,7 @@ use Rattle.map.specs.Says.{valueSays}
 use Rattle.map.specs.declared.Value.{Value}
 use Rattle.picture.specs.Picture.{Wf}
 use Rattle.ask.specs.Asked.{Asked, Handed}
-use Rattle.listing.specs.Listing.{Listing, listed}
+use Rattle.listing.specs.Listing.{Listing, Paired, listed}
 use Rattle.mesh.proofs.Evening.{run-wf}
 use Rattle.whole.specs.Whole.{Whole}
 use Rattle.whole.proofs.One.{whole-yes}
@@ -40,6 +40,16 @@ module _ {w : List ℕ} {m : Map} (s : Story w m) where
       → (valueSays r ≡ listAnswer (checks m) (list m) (length o))
       × (o′ ≡ listed (listAnswer (checks m) (list m) (length o)) (list m) o)
   story-listed q = q .answers m (story-wf s)
+
+  -- and so do two lists side by side
+  pub story-paired : {checks : Map → List Check} {list beside : Map → List ℕ} {o p o′ p′ : List ℕ} {r : Value} → Paired w checks list beside o p r o′ p′
+      → (valueSays r ≡ listAnswer (checks m) (list m) (min (length o) (length p)))
+      × (o′ ≡ listed (listAnswer (checks m) (list m) (min (length o) (length p))) (list m) o)
+      × (p′ ≡ listed (listAnswer (checks m) (beside m) (min (length o) (length p))) (beside m) p)
+  story-paired q =
+      let u = q .entries .answers m (story-wf s) in
+      let v = q .words .answers m (story-wf s) in
+      (u .0, u .1, v .1)
 
   -- the whole check says yes
   pub story-whole : {r : Bool} → Whole w r → r ≡ true

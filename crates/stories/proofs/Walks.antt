@@ -12,6 +12,8 @@ use Rattle.shapes.specs.Shapes.{facetCount}
 use Rattle.map.specs.Cells.{Map, facetsAt}
 use Rattle.map.specs.Siblings.{isHalf, Half, siblings, sibling, walk}
 use Rattle.map.specs.Answers.{Answer, _when_, answer, cellChecks, halfChecks, siblingAnswer, stepAnswer}
+use Rattle.map.specs.declared.Way.{Way}
+use Rattle.map.specs.Ways.{wayNumber, way}
 use Rattle.map.specs.History.{Edit, edited}
 use Rattle.map.specs.Says.{given}
 use Rattle.map.specs.declared.Verdict.{Verdict}
@@ -28,8 +30,8 @@ use Rattle.mesh.specs.Edited.{Edited}
 use Rattle.stories.specs.Walked.{Stepped, Walked, here, onward}
 use Rattle.stories.proofs.Halves.{half-alive}
 
--- at a live half-facet a step is answered by the sibling
-step-given : (m : Map) → Sound m → (h : ℕ) → Half m h → stepAnswer m h ≡ given (sibling m h ∷ [])
+-- at a live half-facet a step is answered by the sibling and the way that it runs
+step-given : (m : Map) → Sound m → (h : ℕ) → Half m h → stepAnswer m h ≡ given (sibling m h ∷ wayNumber (way m h) ∷ [])
 unfolding stepAnswer siblingAnswer halfChecks cellChecks _when_ answer given isHalf facetCount
 step-given m s h x =
     let count : h % 8 < facetCount (m .at (h / 8) .code) =
@@ -42,26 +44,26 @@ step-given m s h x =
     )
 
 module _ {w : List ℕ} {m : Map} (wf : Wf w m) where
-  -- a step at a live half-facet is not refused, and goes to the sibling
+  -- a step at a live half-facet is not refused, goes to the sibling and tells the way that it runs
   pub step-sibling : (at : Walker) (r : Step) → Half m (at .0 .0) → Stepped w at r
-      → (next : Walker) × (r ≡ Next next) × (next .0 .0 ≡ sibling m (at .0 .0))
+      → (next : Walker) × (r ≡ Next next (way m (at .0 .0))) × (next .0 .0 ≡ sibling m (at .0 .0))
   unfolding stepSays given
   step-sibling at r x q =
       let next : Walker = record { 0 = record { 0 = sibling m (at .0 .0) } } in
-      (next, step-one r (Next next) (q .answers m wf ∙ step-given m (wf .sound) (at .0 .0) x), refl)
+      (next, step-one r (Next next (way m (at .0 .0))) (q .answers m wf ∙ step-given m (wf .sound) (at .0 .0) x), refl)
 
   -- so a step that gives a place gives the sibling's
-  step-place : (at next : Walker) → Half m (at .0 .0) → Stepped w at (Next next) → next .0 .0 ≡ sibling m (at .0 .0)
+  step-place : (at next : Walker) (ran : Way) → Half m (at .0 .0) → Stepped w at (Next next ran) → next .0 .0 ≡ sibling m (at .0 .0)
   unfolding stepSays given
-  step-place at next x q = ap (λ (a : Answer). getD (a .values) 0 0) (q .answers m wf ∙ step-given m (wf .sound) (at .0 .0) x)
+  step-place at next ran x q = ap (λ (a : Answer). getD (a .values) 0 0) (q .answers m wf ∙ step-given m (wf .sound) (at .0 .0) x)
 
   -- n steps on unedited memory lead where the definition's walk does
   pub walked-walk : {n : ℕ} {from to : Walker} → Half m (from .0 .0) → Walked w n from to → to .0 .0 ≡ walk m n (from .0 .0)
   unfolding walk steps
   walked-walk x here = refl
-  walked-walk {from = from} x (onward {n} {at = at} {next} walked step) =
+  walked-walk {from = from} x (onward {n} {at = at} {next} {ran} walked step) =
       let there : at .0 .0 ≡ walk m n (from .0 .0) = walked-walk x walked in
-      step-place at next (rw there (siblings-live m (from .0 .0) _ (walk-has m (from .0 .0) x n))) step ∙ ap (sibling m) there
+      step-place at next ran (rw there (siblings-live m (from .0 .0) _ (walk-has m (from .0 .0) x n))) step ∙ ap (sibling m) there
 
   -- and so to a live half-facet
   walked-live : {n : ℕ} {from to : Walker} → Half m (from .0 .0) → Walked w n from to → Half m (to .0 .0)

@@ -24,7 +24,9 @@ use Rattle.shapes.proofs.Types.{type-marks}
 use Rattle.numbers.specs.declared.Caps.{Caps}
 use Rattle.map.specs.Cells.{Map, live, holds, dimensionAt, facetsAt, cellsOf}
 use Rattle.map.specs.Siblings.{isHalf, Half, siblings, sibling}
+use Rattle.map.specs.Ways.{wayNumber, wayAt, way}
 use Rattle.map.specs.Stars.{holders, anchors}
+use Rattle.map.proofs.Ways.{way-back}
 use Rattle.map.specs.Sound.{Sound, TwoSolids}
 use Rattle.laws.proofs.Halves.{half-live}
 use Rattle.picture.specs.State.{State, next, mapWith}
@@ -36,7 +38,7 @@ use Rattle.laws.proofs.Facets.{facets-count}
 use Rattle.picture.proofs.Record.{code-read}
 use Rattle.record_checks.specs.Upright.{Upright}
 use Rattle.whole.proofs.Readings.{few-two, two-few}
-use Rattle.whole.specs.SecondHalf.{twinOf, loneOf, fewIn, facetRight, facetsRight, ancRight, ancsRight, countIn, countRight}
+use Rattle.whole.specs.SecondHalf.{twinOf, loneOf, fewIn, sibRight, facetRight, facetsRight, ancRight, ancsRight, countIn, countRight}
 
 module _ (caps : Caps) (s : State) where
   -- no two cells the same
@@ -139,16 +141,26 @@ module _ (w : List ℕ) (caps : Caps) (s : State) (p : Pic w caps s) where
     unfolding facetRight
     facet-few = rw whole-half at (and-left (fewIn caps (s .at (h / 8) .code) (length (siblings (mapWith caps s) (halfOf (h / 8) (h % 8))))) _ facet-at)
 
-    facet-sib : s .sib h ≡ sibling (mapWith caps s) h
-    unfolding facetRight
-    facet-sib =
-        eqb-true (s .sib h) (sibling (mapWith caps s) h)
-        (rw whole-half at (and-right (fewIn caps (s .at (h / 8) .code) (length (siblings (mapWith caps s) (halfOf (h / 8) (h % 8))))) _ facet-at))
+    facet-stored : eqb (s .sib h) (sibling (mapWith caps s) h) && eqb (wayNumber (s .way h)) (wayNumber (way (mapWith caps s) h)) ≡ true
+    unfolding facetRight sibRight
+    facet-stored = rw whole-half at (and-right (fewIn caps (s .at (h / 8) .code) (length (siblings (mapWith caps s) (halfOf (h / 8) (h % 8))))) _ facet-at)
 
-  -- the siblings, and two solids at most on a face
+    facet-sib : s .sib h ≡ sibling (mapWith caps s) h
+    facet-sib = eqb-true (s .sib h) (sibling (mapWith caps s) h) (and-left _ _ facet-stored)
+
+    facet-way : s .way h ≡ way (mapWith caps s) h
+    facet-way =
+        let same : wayNumber (s .way h) ≡ wayNumber (way (mapWith caps s) h) = eqb-true _ _ (and-right (eqb (s .sib h) (sibling (mapWith caps s) h)) _ facet-stored) in
+        sym (way-back (s .way h)) ∙ (ap wayAt same ∙ way-back (way (mapWith caps s) h))
+
+  -- the siblings and their ways, and two solids at most on a face
   pub sibs-settled : Ready caps s → every (caps .cells) (facetsRight w caps s) ≡ true → Settled caps s
   unfolding mapWith
-  sibs-settled r e = record { ready = r; siblings = λ h half. facet-sib e h (half-live (mapWith caps s) (r .sound) h half .below) half }
+  sibs-settled r e = record {
+    ready = r;
+    siblings = λ h half. facet-sib e h (half-live (mapWith caps s) (r .sound) h half .below) half;
+    ways = λ h half. facet-way e h (half-live (mapWith caps s) (r .sound) h half .below) half;
+  }
 
   pub sibs-two : every (caps .cells) (facetsRight w caps s) ≡ true → TwoSolids (mapWith caps s)
   unfolding mapWith dimensionAt
@@ -158,7 +170,7 @@ module _ (w : List ℕ) (caps : Caps) (s : State) (p : Pic w caps s) where
   }
 
   pub settled-sibs : Settled caps s → TwoSolids (mapWith caps s) → every (caps .cells) (facetsRight w caps s) ≡ true
-  unfolding facetsRight facetRight halfOf isHalf facetCount mapWith dimensionAt
+  unfolding facetsRight facetRight sibRight halfOf isHalf facetCount mapWith dimensionAt
   settled-sibs t two =
       at-every (facetsRight w caps s) (caps .cells)
       (λ c h.
@@ -170,7 +182,9 @@ module _ (w : List ℕ) (caps : Caps) (s : State) (p : Pic w caps s) where
       and-both _ _
       (two-few caps (s .at c .code) (length (siblings (mapWith caps s) (8 * c + f)))
       (λ second solid. two .most second (8 * c + f) (record { below = omega arith; facet = half }) (rw cell solid)))
-      (eq-eqb (s .sib (8 * c + f)) (sibling (mapWith caps s) (8 * c + f)) (t .siblings (8 * c + f) half))))
+      (and-both (eqb (s .sib (8 * c + f)) (sibling (mapWith caps s) (8 * c + f))) _
+      (eq-eqb (s .sib (8 * c + f)) (sibling (mapWith caps s) (8 * c + f)) (t .siblings (8 * c + f) half))
+      (eq-eqb (wayNumber (s .way (8 * c + f))) (wayNumber (way (mapWith caps s) (8 * c + f))) (ap wayNumber (t .ways (8 * c + f) half))))))
     where
       is-half : (c f : ℕ) → c < caps .cells → f < facetCount (codeIn w caps c) → f < mostFacets → ltb ((8 * c + f) % 8) (length (facetsAt (mapWith caps s) ((8 * c + f) / 8))) ≡ true
       is-half c f h l few =

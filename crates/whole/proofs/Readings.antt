@@ -23,21 +23,28 @@ use Rattle.shapes.specs.Table.{table}
 use Rattle.shapes.proofs.Facts.{facts}
 use Rattle.shapes.proofs.Types.{type-marks}
 use Rattle.numbers.specs.declared.Caps.{Caps}
-use Rattle.store.specs.Fields.{Count, Anchor, Sib}
-use Rattle.store.specs.Slots.{InHead, InMark, InCell, read, codeIn, cornerIn}
+use Rattle.store.specs.Fields.{Count, Anchor}
+use Rattle.store.specs.Slots.{InHead, InMark, read, codeIn, cornerIn, siblingIn, wayIn}
 use Rattle.map.specs.Cells.{Map, live, holds, dimensionAt, facetsAt}
-use Rattle.map.specs.Siblings.{sharers, siblings, sibling, marksOf}
+use Rattle.map.specs.declared.Way.{Way}
+use Rattle.map.specs.Siblings.{Half, sharers, siblings, sibling, marksOf}
+use Rattle.map.specs.Ways.{wayNumber, way}
 use Rattle.map.specs.Stars.{holders, anchors}
 use Rattle.map.specs.Sound.{Sound}
 use Rattle.laws.proofs.Anchors.{half-facet}
+use Rattle.laws.proofs.Halves.{half-live}
+use Rattle.laws.proofs.Cycles.{sibling-live}
+use Rattle.laws.proofs.Ways.{way-by}
 use Rattle.picture.specs.State.{State, next, mapWith}
 use Rattle.picture.specs.Picture.{chainOf, Pic}
 use Rattle.picture.specs.Ready.{Ready}
 use Rattle.chain.specs.Chain.{Gathered}
 use Rattle.facet.specs.Facet.{facetIn}
 use Rattle.sibling.specs.Shared.{Shared}
+use Rattle.sibling.specs.Ways.{facingIn}
+use Rattle.sibling.proofs.Mended.{facing-read}
 use Rattle.laws.proofs.Facets.{facets-count, facet-some, facet-inside}
-use Rattle.picture.proofs.Record.{code-read, corner-read, sib-read, anchor-read}
+use Rattle.picture.proofs.Record.{code-read, corner-read, sib-read, way-read, anchor-read}
 use Rattle.facet.proofs.Read.{facet-read}
 use Rattle.star.specs.Listed.{Reads}
 use Rattle.group.specs.Group.{Around}
@@ -45,7 +52,7 @@ use Rattle.lists.proofs.Mapped.{copied-list}
 use Rattle.record_checks.specs.Upright.{Upright}
 use Rattle.facet.proofs.Read.{marks-is}
 use Rattle.record_checks.proofs.Uprights.{upright-chain, upright-linked}
-use Rattle.whole.specs.SecondHalf.{Sees, Readied, SettledBy, twinIn, twinOf, loneOf, fewIn, facetRight, ancRight, countIn, countRight}
+use Rattle.whole.specs.SecondHalf.{Sees, Readied, SettledBy, twinIn, twinOf, loneOf, fewIn, sibRight, facetRight, ancRight, countIn, countRight}
 use Rattle.numbers.specs.Sizes.{mostAround}
 use Rattle.shapes.specs.Sizes.{mostFacets}
 
@@ -171,12 +178,9 @@ module _ (w : List ℕ) (caps : Caps) (rows : List (List (List ℕ))) (c f : ℕ
         }))
         ∙ ap (sharers (mapWith caps s)) set-is
 
-    stored-is : read w caps (InCell (halfOf c f / 8) (Sib (halfOf c f % 8))) ≡ s .sib (halfOf c f)
+    cell-is : halfOf c f / 8 < caps .cells
     unfolding halfOf
-    stored-is =
-        let cell : (8 * c + f) / 8 ≡ c = omega (arith, small) in
-        let facet : (8 * c + f) % 8 ≡ f = omega (arith, small) in
-        sib-read w caps s p (8 * c + f) (omega (arith, cell)) (omega (arith, facet, small))
+    cell-is = let cell : (8 * c + f) / 8 ≡ c = omega (arith, small) in omega (arith, cell)
 
     -- so many may share it, by the record and by the map
     few-is : (n t : ℕ) (o o′ : List ℕ) → Shared w caps rows (facetIn w caps rows c f) o n o′ → length o ≡ mostAround → t ≡ codeIn w caps c
@@ -184,15 +188,27 @@ module _ (w : List ℕ) (caps : Caps) (rows : List (List (List ℕ))) (c f : ℕ
     few-is n t o o′ shared size word =
         rw (word ∙ code-read w caps s p c h, sym (length-listOf n (λ i. getD o′ i 0)) ∙ ap length (shared-is n o o′ shared size))
 
-    one : (n half next stored : ℕ) (o o′ : List ℕ) → Shared w caps rows (facetIn w caps rows c f) o n o′ → length o ≡ mostAround
-        → half ≡ halfOf (cut c) (f % 8) → next ≡ after half (listOf n (λ i. getD o′ i 0))
-        → stored ≡ read w caps (InCell (half / 8) (Sib (half % 8))) → eqb stored next ≡ eqb (s .sib (halfOf c f)) (sibling (mapWith caps s) (halfOf c f))
+    facet-low : halfOf c f % 8 < mostFacets
+    unfolding halfOf
+    facet-low = let facet : (8 * c + f) % 8 ≡ f = omega (arith, small) in omega (arith, facet, small)
+
+    live-is : Half (mapWith caps s) (halfOf c f)
+    unfolding halfOf
+    live-is = half-live (mapWith caps s) (r .sound) (8 * c + f) (half-facet (mapWith caps s) c f few .1)
+
+    next-is : (n half next : ℕ) (o o′ : List ℕ) → Shared w caps rows (facetIn w caps rows c f) o n o′ → length o ≡ mostAround
+        → half ≡ halfOf c f → next ≡ after half (listOf n (λ i. getD o′ i 0)) → next ≡ sibling (mapWith caps s) (halfOf c f)
     unfolding sibling
-    one n half next stored o o′ shared size uncut found word =
-        let half-is : half ≡ halfOf c f = uncut ∙ half-uncut c f (omega (arith, p .cells)) (omega (arith, small)) in
-        let next-is : next ≡ after (halfOf c f) (siblings (mapWith caps s) (halfOf c f)) =
-        found ∙ (ap (λ (h : ℕ). after h (listOf n (λ i. getD o′ i 0))) half-is ∙ ap (after (halfOf c f)) (shared-is n o o′ shared size)) in
-        rw (word ∙ (ap (λ (h : ℕ). read w caps (InCell (h / 8) (Sib (h % 8)))) half-is ∙ stored-is), next-is)
+    next-is n half next o o′ shared size half-is found =
+        found ∙ (ap (λ (h : ℕ). after h (listOf n (λ i. getD o′ i 0))) half-is ∙ ap (after (halfOf c f)) (shared-is n o o′ shared size))
+
+    -- which way the two run is the way
+    ran-is : (next : ℕ) → next ≡ sibling (mapWith caps s) (halfOf c f) → facingIn w caps rows (halfOf c f) next ≡ way (mapWith caps s) (halfOf c f)
+    unfolding mapWith
+    ran-is next e =
+        let beside : next / 8 < caps .cells = rw e (omega (arith, sibling-live (mapWith caps s) (halfOf c f) live-is .below)) in
+        rw types (facing-read w caps s p (r .sound .fitting) (halfOf c f) next cell-is beside)
+        ∙ way-by (mapWith caps s) (halfOf c f) live-is next e
 
   module _ (n t : ℕ) (b : Bool) (o o′ : List ℕ) (shared : Shared w caps rows (facetIn w caps rows c f) o n o′) (size : length o ≡ mostAround)
       (code : t ≡ codeIn w caps c) (may : b ≡ fewIn caps t n) where
@@ -207,14 +223,50 @@ module _ (w : List ℕ) (caps : Caps) (rows : List (List (List ℕ))) (c f : ℕ
     unfolding facetRight
     sibling-many e = record { sees = λ s p k. and-no _ _ (sym (few-at s p k) ∙ e) }
 
-    pub sibling-held : b ≡ true → (half next stored : ℕ) → half ≡ halfOf (cut c) (f % 8) → next ≡ after half (listOf n (λ i. getD o′ i 0))
-        → stored ≡ read w caps (InCell (half / 8) (Sib (half % 8))) → Right (eqb stored next)
-    unfolding facetRight
-    sibling-held e half next stored uncut found word = record {
-      sees = λ s p k.
-          and-yes _ _ _ (sym (few-at s p k) ∙ e)
-          (one s p (k .0 .0 .ready) (k .0 .0 .types) (k .0 .1) (k .1) n half next stored o o′ shared size uncut found word);
-    }
+    module _ (e : b ≡ true) (half next stored : ℕ) (uncut : half ≡ halfOf (cut c) (f % 8)) (found : next ≡ after half (listOf n (λ i. getD o′ i 0)))
+        (word : stored ≡ siblingIn w caps half) where
+      half-is : (s : State) → Pic w caps s → c < caps .cells → f < facetCount (codeIn w caps c) → half ≡ halfOf c f
+      unfolding facetCount
+      half-is s p h hf = uncut ∙ half-uncut c f (omega (arith, p .cells)) (omega (arith, facts (codeIn w caps c) .facets))
+
+      module _ (s : State) (p : Pic w caps s) (k : (Readied caps rows s × (c < caps .cells)) × (f < facetCount (codeIn w caps c))) where
+        kept : stored ≡ s .sib (halfOf c f)
+        kept =
+            word
+            ∙ (ap (siblingIn w caps) (half-is s p (k .0 .1) (k .1))
+            ∙ sib-read w caps s p (halfOf c f) (cell-is s p (k .0 .0 .ready) (k .0 .0 .types) (k .0 .1) (k .1)) (facet-low s p (k .0 .0 .ready) (k .0 .0 .types) (k .0 .1) (k .1)))
+
+        onward : next ≡ sibling (mapWith caps s) (halfOf c f)
+        onward = next-is s p (k .0 .0 .ready) (k .0 .0 .types) (k .0 .1) (k .1) n half next o o′ shared size (half-is s p (k .0 .1) (k .1)) found
+
+      -- another sibling is stored
+      pub sibling-wrong : (stored ≡ next → ⊥) → Right false
+      unfolding facetRight sibRight
+      sibling-wrong other = record {
+        sees = λ s p k.
+            and-yes _ _ _ (sym (few-at s p k) ∙ e)
+            (rw (ne-eqb (s .sib (halfOf c f)) (sibling (mapWith caps s) (halfOf c f)) (λ z. other (kept s p k ∙ (z ∙ sym (onward s p k))))));
+      }
+
+      -- the sibling is: the ways are held against each other
+      pub sibling-held : stored ≡ next → (x y : ℕ) (a b : Way) → a ≡ wayIn w caps half → x ≡ wayNumber a → b ≡ facingIn w caps rows half next → y ≡ wayNumber b
+          → Right (eqb x y)
+      unfolding facetRight sibRight
+      sibling-held same x y a b ea ex eb ey = record {
+        sees = λ s p k.
+            let right : eqb (s .sib (halfOf c f)) (sibling (mapWith caps s) (halfOf c f)) ≡ true =
+            eq-eqb _ _ (sym (kept s p k) ∙ (same ∙ onward s p k)) in
+            let half : half ≡ halfOf c f = half-is s p (k .0 .1) (k .1) in
+            let told : a ≡ s .way (halfOf c f) =
+            ea
+            ∙ (ap (wayIn w caps) half
+            ∙ way-read w caps s p (halfOf c f) (cell-is s p (k .0 .0 .ready) (k .0 .0 .types) (k .0 .1) (k .1)) (facet-low s p (k .0 .0 .ready) (k .0 .0 .types) (k .0 .1) (k .1))) in
+            let ran : b ≡ way (mapWith caps s) (halfOf c f) =
+            eb
+            ∙ (ap (λ (h : ℕ). facingIn w caps rows h next) half
+            ∙ ran-is s p (k .0 .0 .ready) (k .0 .0 .types) (k .0 .1) (k .1) next (onward s p k)) in
+            and-yes _ _ _ (sym (few-at s p k) ∙ e) (rw (right, ex, ey, told, ran));
+      }
 
 -- the step that holds a stored first anchor against the first anchor
 module _ (w : List ℕ) (caps : Caps) (rows : List (List (List ℕ))) (v d : ℕ) (less : d < 3) where

@@ -9,39 +9,42 @@ use Rattle.numbers.specs.declared.Caps.{Caps}
 use Rattle.shapes.specs.Sizes.{mostFacets, mostCode}
 use Rattle.map.specs.Cells.{cellsOf}
 use Rattle.map.specs.Siblings.{isHalf, sibling}
+use Rattle.map.specs.declared.Way.the-variants.{Lone}
+use Rattle.map.specs.Ways.{wayNumber, way}
 use Rattle.map.specs.Sound.{TwoSolids}
 use Rattle.map.specs.Stars.{anchors}
 use Rattle.picture.specs.State.{State, next, mapWith, stateOf}
-use Rattle.picture.specs.Picture.{Pic, Wf}
+use Rattle.picture.specs.Picture.{Pic, Wf, sibWord}
 use Rattle.picture.specs.Ready.{Settled}
 use Rattle.picture.proofs.Alike.{retold, pic-retold, state-same}
 
 module _ (w : List ℕ) (caps : Caps) (s : State) (p : Pic w caps s) (settled : Settled caps s) (two : TwoSolids (mapWith caps s))
     (counts : (t : ℕ) → 1 ≤ t → t ≤ mostCode → s .count t ≡ length (cellsOf (mapWith caps s) t))
     (ancs : (v d : ℕ) → v < caps .marks → 1 ≤ d → d ≤ 3 → s .anc d v ≡ next (anchors (mapWith caps s) d v))
-    (none : (c f : ℕ) → c < caps .cells → f < mostFacets → isHalf (mapWith caps s) (8 * c + f) ≡ false → s .sib (8 * c + f) ≡ 0) where
-  sib-same : (c f : ℕ) → c < caps .cells → f < mostFacets → s .sib (8 * c + f) ≡ stateOf (mapWith caps s) .sib (8 * c + f)
-  unfolding stateOf
+    (none : (c f : ℕ) → c < caps .cells → f < mostFacets → isHalf (mapWith caps s) (8 * c + f) ≡ false → sibWord s (8 * c + f) ≡ 0) where
+  sib-same : (c f : ℕ) → c < caps .cells → f < mostFacets → sibWord s (8 * c + f) ≡ sibWord (stateOf (mapWith caps s)) (8 * c + f)
+  unfolding stateOf wayNumber
   sib-same c f h less = go (isHalf (mapWith caps s) (8 * c + f)) refl
     where
-      go : (b : Bool) → isHalf (mapWith caps s) (8 * c + f) ≡ b → s .sib (8 * c + f) ≡ cond b (sibling (mapWith caps s) (8 * c + f)) 0
-      go true e = settled .siblings (8 * c + f) e
+      go : (b : Bool) → isHalf (mapWith caps s) (8 * c + f) ≡ b
+          → sibWord s (8 * c + f) ≡ 4 * cond b (sibling (mapWith caps s) (8 * c + f)) 0 + wayNumber (cond b (way (mapWith caps s) (8 * c + f)) Lone)
+      go true e = rw (settled .siblings (8 * c + f) e, settled .ways (8 * c + f) e)
       go false e = none c f h less e
 
   -- the siblings, first anchors and counts of the map
   there : State
-  there = retold s (stateOf (mapWith caps s) .sib) (stateOf (mapWith caps s) .anc) (stateOf (mapWith caps s) .count)
+  there = retold s (stateOf (mapWith caps s) .sib) (stateOf (mapWith caps s) .way) (stateOf (mapWith caps s) .anc) (stateOf (mapWith caps s) .count)
 
   told : Pic w caps there
   unfolding stateOf there
   told =
-      pic-retold caps s (stateOf (mapWith caps s) .sib) (stateOf (mapWith caps s) .anc) (stateOf (mapWith caps s) .count)
+      pic-retold caps s (stateOf (mapWith caps s) .sib) (stateOf (mapWith caps s) .way) (stateOf (mapWith caps s) .anc) (stateOf (mapWith caps s) .count)
       (λ c f h. sib-same c f (h .0) (h .1)) (λ d v h. ancs v d (h .0) (h .1 .0) (h .1 .1)) (λ t h. counts t (h .0) (h .1)) w p
 
   -- and its chains
   fields : there ≡ stateOf (mapWith caps s)
   unfolding stateOf mapWith there
-  fields = state-same there (stateOf (mapWith caps s)) refl (fun-ext (λ v. fun-ext (λ c. settled .ready .chains v c))) refl refl refl
+  fields = state-same there (stateOf (mapWith caps s)) refl (fun-ext (λ v. fun-ext (λ c. settled .ready .chains v c))) refl refl refl refl
 
   pub settled-wf : Wf w (mapWith caps s)
   unfolding mapWith

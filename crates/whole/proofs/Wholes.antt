@@ -18,15 +18,16 @@ use Rattle.numbers.specs.Editions.{isEdition}
 use Rattle.store.specs.declared.Opened.the-variants.{Mesh, Nothing}
 use Rattle.shapes.specs.Sizes.{mostFacets, mostCode}
 use Rattle.store.specs.Layout.{headWords, magic, room}
-use Rattle.store.specs.Fields.{Magic, MarkCap, CellCap, Edition, Count}
-use Rattle.store.specs.Slots.{InHead, read, codeIn}
+use Rattle.store.specs.Fields.{Magic, MarkCap, CellCap, Edition, Count, Sib}
+use Rattle.store.specs.Slots.{InHead, InCell, read, codeIn}
+use Rattle.store.proofs.Ways.{word-packed}
 use Rattle.store.specs.Open.{headIn, capsIn, isMesh, opened}
 use Rattle.map.specs.Cells.{Map, facetsAt, cellsOf}
 use Rattle.map.specs.Siblings.{isHalf}
 use Rattle.map.specs.Sound.{TwoSolids}
 use Rattle.map.specs.Stars.{anchors}
 use Rattle.picture.specs.State.{State, next, mapWith, stateOf}
-use Rattle.picture.specs.Picture.{Pic, Wf}
+use Rattle.picture.specs.Picture.{Pic, Wf, sibWord}
 use Rattle.picture.specs.Ready.{Ready, Settled}
 use Rattle.picture.proofs.Settles.{wf-pic, wf-settled, wf-map}
 use Rattle.laws.proofs.Facets.{facets-count}
@@ -136,13 +137,15 @@ module _ (w : List ℕ) (caps : Caps) (opens : Mesh caps ≡ opened w) where
       stilled : Settled caps (seen w caps)
       stilled = sibs-settled w caps (seen w caps) told ready rights
 
-      empty-facet : (c f : ℕ) → c < caps .cells → f < mostFacets → isHalf (mapWith caps (seen w caps)) (8 * c + f) ≡ false → seen w caps .sib (8 * c + f) ≡ 0
+      empty-facet : (c f : ℕ) → c < caps .cells → f < mostFacets → isHalf (mapWith caps (seen w caps)) (8 * c + f) ≡ false → sibWord (seen w caps) (8 * c + f) ≡ 0
       unfolding seen isHalf
       empty-facet c f h less e =
           let a : (8 * c + f) / 8 ≡ c = omega arith in
           let b : (8 * c + f) % 8 ≡ f = omega arith in
           let past : length (facetsAt (mapWith caps (seen w caps)) c) ≤ f = ltb-false f (length (facetsAt (mapWith caps (seen w caps)) c)) (rw (a, b) at e) in
-          rw (a, b) (behind-facets w caps headed laid c h f (omega (arith, facets-read w caps (seen w caps) told c h, past)) less)
+          rw (a, b)
+          (word-packed (read w caps (InCell c (Sib f)))
+          ∙ behind-facets w caps headed laid c h f (omega (arith, facets-read w caps (seen w caps) told c h, past)) less)
 
       well : ancs ≡ true → Wf w (mapWith caps (seen w caps))
       unfolding seen

@@ -14,6 +14,7 @@ use Rattle.shapes.specs.Table.{table}
 use Rattle.numbers.specs.declared.Caps.{Caps}
 use Rattle.map.specs.Cells.{Map}
 use Rattle.map.specs.Siblings.{siblings, sibling}
+use Rattle.map.specs.Ways.{wayNumber, way}
 use Rattle.map.specs.Stars.{holders, anchors}
 use Rattle.picture.specs.State.{State, next, mapWith}
 use Rattle.picture.specs.Picture.{Pic}
@@ -51,11 +52,15 @@ loneOf m c = eqb (m .at c .code) 0 || not (any (twinOf m c) (holders m (getD (m 
 unfoldable pub fewIn : Caps → ℕ → ℕ → Bool
 fewIn caps t n = not (eqb (caps .edition) secondEdition) || (not (eqb (shape t .dimension) 3) || leb n 2)
 
--- as many as share a facet may, and its stored sibling is the sibling
+-- the stored sibling of a half-facet is the sibling, and its way the way
+unfoldable pub sibRight : Caps → State → ℕ → ℕ → Bool
+sibRight caps s c f =
+    eqb (s .sib (halfOf c f)) (sibling (mapWith caps s) (halfOf c f))
+    && eqb (wayNumber (s .way (halfOf c f))) (wayNumber (way (mapWith caps s) (halfOf c f)))
+
+-- as many as share a facet may, and what is stored of it is right
 unfoldable pub facetRight : Caps → State → ℕ → ℕ → Bool
-facetRight caps s c f =
-    fewIn caps (s .at c .code) (length (siblings (mapWith caps s) (halfOf c f)))
-    && eqb (s .sib (halfOf c f)) (sibling (mapWith caps s) (halfOf c f))
+facetRight caps s c f = fewIn caps (s .at c .code) (length (siblings (mapWith caps s) (halfOf c f))) && sibRight caps s c f
 
 -- so for each facet of a cell, as its record gives them
 unfoldable pub facetsRight : List ℕ → Caps → State → ℕ → Bool

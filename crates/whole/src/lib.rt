@@ -18,6 +18,7 @@ use chain::gather;
 use facet::marks_at;
 use group::first_anchor_of;
 use lists::same_set;
+use map::way_number;
 use numbers::Caps;
 use numbers::Cell;
 use numbers::Half;
@@ -32,6 +33,7 @@ use shapes::dimension;
 use shapes::facet_count;
 use shapes::facet_table;
 use sibling::facet_sharers;
+use sibling::facing;
 use store::Opened;
 use store::anchor_of;
 use store::code_of;
@@ -39,6 +41,7 @@ use store::corner_of;
 use store::count_of;
 use store::open;
 use store::sibling_of;
+use store::way_of;
 use words::word;
 
 // Whether k is another cell than c, of the same type with the same set of marks.
@@ -126,7 +129,7 @@ fn few(caps: Caps, t: u32, n: u32) -> bool
     n <= 2
 }
 
-// Whether so many may share a facet, and the stored sibling of its half-facet is the sibling.
+// Whether so many may share a facet, and the stored sibling of its half-facet is the sibling, its way the way.
 fn sibling_ok(w: &[u32], caps: Caps, rows: &FacetTable, c: Cell, f: u32) -> bool
     ensures { λ r. ⌜ Sees (now (w .entry)) caps (λ s. (Readied caps (now (rows .entry)) s × (c .0 < caps .cells)) × (f < facetCount (codeIn (now (w .entry)) caps (c .0)))) (λ s. facetRight caps s (c .0) f) r ⌝ }
 {
@@ -136,7 +139,11 @@ fn sibling_ok(w: &[u32], caps: Caps, rows: &FacetTable, c: Cell, f: u32) -> bool
         return false;
     }
     let half = half_of(c, f);
-    sibling_of(w, caps, half).0 == next_in(&halves, n, half)
+    let next = Half(next_in(&halves, n, half));
+    if sibling_of(w, caps, half).0 != next.0 {
+        return false;
+    }
+    way_number(way_of(w, caps, half)) == way_number(facing(w, caps, rows, half, next))
 }
 
 // Whether that is so for each facet of a cell.

@@ -35,7 +35,7 @@ fn about_cell(memory: &Memory, cell: u32, lines: &mut Vec<String>) {
     for facet in 0..=6 {
         let sibling = memory.sibling(cell, facet);
         let border = memory.border(cell, facet);
-        let cycle = memory.cycle(cell, facet, PLENTY);
+        let cycle = memory.cycle(cell, facet, PLENTY, PLENTY);
         lines.push(format!(
             "half-facet {cell} {facet} {sibling:?} {border:?} {cycle:?}"
         ));

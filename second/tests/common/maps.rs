@@ -1,6 +1,6 @@
 //! Small maps, among them those of the outline's twelve cases.
 
-use second::{room, Memory};
+use second::{room, Memory, Refusal};
 
 pub const BAR: u32 = 1;
 pub const TRI: u32 = 2;
@@ -15,6 +15,23 @@ pub const PLENTY: usize = 1000;
 
 /// Cell number, type code, marks.
 pub type Record<'a> = (u32, u32, &'a [u32]);
+
+/// The sibling without its way, and the cycle without its ways.
+pub trait WithoutWays {
+    fn next(&self, cell: u32, facet: u32) -> Result<u32, Refusal>;
+    fn ring(&self, cell: u32, facet: u32, room: usize) -> Result<Vec<u32>, Refusal>;
+}
+
+impl WithoutWays for Memory {
+    fn next(&self, cell: u32, facet: u32) -> Result<u32, Refusal> {
+        self.sibling(cell, facet).map(|(half, _)| half)
+    }
+
+    fn ring(&self, cell: u32, facet: u32, room: usize) -> Result<Vec<u32>, Refusal> {
+        let cycle = self.cycle(cell, facet, room, room)?;
+        Ok(cycle.into_iter().map(|(half, _)| half).collect())
+    }
+}
 
 /// A mesh with no live cell, in memory of exactly its room.
 pub fn formatted(marks: u32, cells: u32) -> Memory {

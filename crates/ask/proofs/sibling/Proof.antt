@@ -10,11 +10,13 @@ returns c = sibling-refused _ _ _ _ (c .before .before .before .about-half .ensu
 
 returns-2 : tie.Need-returns-2
 returns-2 c =
-    let at-caps = c .before .before .before in
+    let at-sibling-of = c .before in
+    let at-half-of = at-sibling-of .before in
+    let at-caps = at-half-of .before .before in
     let opens = at-caps .before .before .about-half .ensures .opens _ (at-caps .caps .given .1) in
-    sibling-given _ _ (opens .0) _ _ _ (opens .1) refl _ (c .before .half-of .ensures) _ (c .sibling-of .ensures)
+    sibling-given _ _ (opens .0) _ _ _ (opens .1) refl _ (at-half-of .half-of .ensures) _ (at-sibling-of .sibling-of .ensures) _ (c .way-of .ensures)
 
 pub sibling-spec : {M : Type 1} → statement M
 sibling-spec =
     tie.close
-    (tie.spec (λ c κs. search needs) (λ c. search needs) (λ c. search needs) (λ c κs. search needs) (λ c κs. search needs) returns returns-2)
+    (tie.spec (λ c κs. search needs) (λ c. search needs) (λ c. search needs) (λ c κs. search needs) (λ c κs. search needs) (λ c κs. search needs) returns returns-2)

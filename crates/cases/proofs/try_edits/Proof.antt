@@ -10,7 +10,7 @@ abbrev Inv-loop : tie.InvT-loop
 Inv-loop w₀ p k₀ w k = length w ≡ length w₀
 
 abbrev μ-loop : tie.MeasureT-loop
-μ-loop w₀ p k₀ w k = 50 - k
+μ-loop w₀ p k₀ w k = 56 - k
 
 pub try-edits-spec : {M : Type 1} → statement M
 try-edits-spec =

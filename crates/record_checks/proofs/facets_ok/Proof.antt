@@ -1,4 +1,4 @@
--- `laid::facets_ok` meets its contract.
+-- `record_checks::facets_ok` meets its contract.
 use mathlib.Core.Path.{_≡_}
 use mathlib.Core.Bool.{true}
 use Prim.Native.Nat.{_-_, _≤_}
@@ -22,15 +22,15 @@ loop-holds c = (omega arith, facets-start _ _ _ _)
 
 returns : tie.Need-returns Inv-loop μ-loop
 returns c =
-    let at-half = c .before .before .before in
+    let at-half = c .before .before in
     let at-loop = at-half .before .before .loop in
-    rw (← at-half .before .before .before .facet-count .ensures) (facets-stop _ _ _ _ (at-loop .f) _ _ (at-loop .inv .0) (omega arith) (at-half .half-of .ensures) (c .before .before .sibling-of .ensures) (c .if1 .taken))
+    rw (← at-half .before .before .before .facet-count .ensures) (facets-stop _ _ _ _ (at-loop .f) _ _ (at-loop .inv .0) (omega arith) (at-half .half-of .ensures) (c .before .sibling-word .ensures) (c .if1 .taken))
 
 loop-again : tie.Need-loop-again Inv-loop μ-loop
 loop-again c =
-    let at-half = c .before .before .before in
+    let at-half = c .before .before in
     let at-loop = at-half .before .before .loop in
-    (omega arith, facets-more _ _ _ _ (at-loop .f) _ _ (at-loop .inv .0) (omega arith) (at-half .half-of .ensures) (c .before .before .sibling-of .ensures) (at-loop .inv .1) (c .if1 .left))
+    (omega arith, facets-more _ _ _ _ (at-loop .f) _ _ (at-loop .inv .0) (omega arith) (at-half .half-of .ensures) (c .before .sibling-word .ensures) (at-loop .inv .1) (c .if1 .left))
 
 returns-2 : tie.Need-returns-2 Inv-loop μ-loop
 returns-2 c = rw (← c .before .before .facet-count .ensures) (facets-end _ _ _ _ (c .before .loop .f) (c .before .loop .inv .1) (omega arith))

@@ -16,7 +16,7 @@ returns-2 c =
     let at-write-half = c .before .before in
     let at-h = at-write-half .before .before .before in
     let at-sibling = at-h .before .before in
-    sibling-replied _ _ _ _ _ _ _ _ _ (at-sibling .sibling .ensures) _ (at-h .h .given .1) (at-write-half .write-half .ensures)
+    sibling-replied _ _ _ _ _ _ _ _ _ (at-sibling .sibling .ensures) _ _ (at-h .h .given .1) (at-write-half .write-half .ensures)
 
 pub reply-sibling-spec : {M : Type 1} → statement M
 reply-sibling-spec =

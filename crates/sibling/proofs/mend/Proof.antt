@@ -22,15 +22,16 @@ loop-holds c = (omega arith, mend-start _ _ _ _)
 loop-again : tie.Need-loop-again Inv-loop μ-loop
 loop-again c =
     let at-put-sibling = c .before .before in
-    let at-word2 = at-put-sibling .before .before in
+    let at-facing = at-put-sibling .before .before in
+    let at-word2 = at-facing .before .before in
     let at-word = at-word2 .before .before .before in
     let at-start = at-word .before .before in
     let branch = at-start in
     let start = branch .before .before in (
       omega arith,
-      mend-more _ _ _ _ _ _ _ (start .loop .i) (branch .if1 .to) _ _ _ _ (start .before .before .sharers .ensures) refl (start .loop .inv .1)
+      mend-more _ _ _ _ _ _ _ (start .loop .i) (branch .if1 .to) _ _ _ _ _ (start .before .before .sharers .ensures) refl (start .loop .inv .1)
           (branch .before .loop-test .taken) (⊎-elim (λ a. inl (a .0 .taken, a .1)) (λ a. inr (a .0 .left, a .1)) (branch .if1 .came))
-          (at-word .word .ensures) (at-word2 .word2 .ensures) (at-put-sibling .put-sibling .ensures),
+          (at-word .word .ensures) (at-word2 .word2 .ensures) (at-facing .facing .ensures) (at-put-sibling .put-sibling .ensures),
     )
 
 returns : tie.Need-returns Inv-loop μ-loop
@@ -52,6 +53,7 @@ mend-spec =
     (λ c. search needs)
     (λ c κs. search needs)
     (λ c. search needs)
+    (λ c κs. search needs)
     (λ c κs. search needs)
     (λ c κs. search needs)
     (λ c. search needs)

@@ -18,7 +18,7 @@ returns-2 c =
     let at-sibling = at-next .before .before in
     let at-facet-of = at-sibling .before in
     let at-cell-of = at-facet-of .before in
-    step-next _ _ _ _ _ (at-cell-of .cell-of .ensures) (at-facet-of .facet-of .ensures) (at-sibling .sibling .ensures) _ (at-next .next .given .1)
+    step-next _ _ _ _ _ (at-cell-of .cell-of .ensures) (at-facet-of .facet-of .ensures) (at-sibling .sibling .ensures) _ _ (at-next .next .given .1)
 
 pub step-spec : {M : Type 1} → statement M
 step-spec =

@@ -1,19 +1,19 @@
--- `store::sibling_of` meets its contract.
+-- `store::sibling_word` meets its contract.
 use native.Mathlib.Omega.{arith}
 use Rattle.store.proofs.Writes.{read-at}
 use Rattle.store.specs.Fields.{cellPlace}
 use Rattle.store.specs.Slots.{address, placeAt}
 use Rattle.store.specs.Layout.{nearAt}
 use borrow.Author.Needs.{needs}
-use Rattle.store.proofs.sibling_of.Statement.{statement}
-use Rattle.store.proofs.sibling_of.Tie as tie
+use Rattle.store.proofs.sibling_word.Statement.{statement}
+use Rattle.store.proofs.sibling_word.Tie as tie
 
 returns : tie.Need-returns
 unfolding address placeAt cellPlace nearAt
 returns c = read-at _ _ _ _ _ (c .word .ensures) (omega arith)
 
-pub sibling-of-spec : {M : Type 1} → statement M
-sibling-of-spec =
+pub sibling-word-spec : {M : Type 1} → statement M
+sibling-word-spec =
     tie.close
     (tie.spec
     (λ c κs. search needs)
