@@ -1,5 +1,5 @@
 /* A complaint, start to end, from C: a viaduct over a hillside, the cells around a mark, one removed, the cells again;
- * and solids under the second edition.
+ * a morning's edits in one call; and solids under the second edition.
  *
  *     cc -Iinclude examples/complaint.c libmesh_c.a -o complaint
  */
@@ -51,6 +51,21 @@ static void tell(uint32_t mark)
     }
 }
 
+/* a morning's edits; the third is refused, and the fourth not made */
+static void morning(void)
+{
+    static const uint32_t edits[] = {MK_REMOVE, 2, MK_INSERT, 6, MK_BAR_2, 0, 8, MK_REMOVE, 2, MK_REMOVE, 0};
+    uint32_t tally[] = {0, 0};
+    size_t made = 0;
+    uint8_t refusal = mk_edits(words, MK_ROOM(MARKS, CELLS), edits, sizeof edits / sizeof edits[0], tally, &made);
+    if (refusal == 0) {
+        printf("%zu edits made\n", made);
+    } else {
+        printf("%zu edits made, then %d\n", made, refusal);
+    }
+    printf("%" PRIu32 " accepted, %" PRIu32 " refused\n", tally[0], tally[1]);
+}
+
 /* under the second edition a face lies between two solids at most */
 static void harbour(void)
 {
@@ -90,6 +105,7 @@ int main(void)
     } else {
         printf("cell 5 is refused with %d\n", refusal);
     }
+    morning();
     harbour();
     return 0;
 }

@@ -1,7 +1,7 @@
 #!/usr/bin/env python3
 """A complaint, start to end, from Python: a viaduct over a hillside, the cells
-around a mark, one removed, the cells again; and solids under the second
-edition.
+around a mark, one removed, the cells again; a morning's edits in one call; and
+solids under the second edition.
 
 usage: complaint.py LIBRARY
 LIBRARY is the proved library as a shared library, as README.md makes it.
@@ -11,6 +11,7 @@ import sys
 
 BAR, TRIANGLE, QUAD, TETRAHEDRON, PYRAMID, WEDGE, BRICK = 1, 2, 3, 4, 5, 6, 7
 FIRST_EDITION, SECOND_EDITION = 1, 2
+INSERT, REMOVE = 1, 2
 WAYS = ("Lone", "Same", "Opposite", "Neither")
 LONGEST_LIST = 128
 
@@ -49,6 +50,21 @@ class Map:
 
     def remove(self, cell):
         self._call("mk_remove", ctypes.c_uint32(cell))
+
+    def edits(self, edits, tally):
+        """Makes the edits up to the first that is refused: how many, and why the
+        list stopped, or None. The tally is a list of two counts."""
+        words = [word for edit in edits for word in edit]
+        list_ = (ctypes.c_uint32 * len(words))(*words)
+        counts, made = (ctypes.c_uint32 * 2)(*tally), ctypes.c_size_t()
+        stopped = None
+        try:
+            given = [list_, ctypes.c_size_t(len(words)), counts]
+            self._call("mk_edits", *given, ctypes.byref(made))
+        except Refused as refused:
+            stopped = refused
+        tally[:] = counts
+        return made.value, stopped
 
     def star(self, dimension, mark):
         return self._list("mk_star", dimension, mark)
@@ -116,6 +132,13 @@ def main():
         print("cell 5 stands")
     except Refused as refused:
         print(f"cell 5 is {refused}")
+
+    # a morning's edits; the third is refused, and the fourth not made
+    tally = [0, 0]
+    morning = [(REMOVE, 2), (INSERT, 6, BAR, 0, 8), (REMOVE, 2), (REMOVE, 0)]
+    made, stopped = map_.edits(morning, tally)
+    print(f"{made} edits made" + (f", then {stopped.number}" if stopped else ""))
+    print(f"{tally[0]} accepted, {tally[1]} refused")
 
     # under the second edition a face lies between two solids at most
     harbour = Map(map_.calls, 6, 4, SECOND_EDITION)

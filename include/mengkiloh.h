@@ -7,7 +7,7 @@
  *
  * Every call but mk_whole answers a refusal number: 0 if it is accepted, else why it is refused
  * (enum mk_refusal). Values come through pointers, and only where the call is accepted: a refused
- * call leaves everything that was lent as it was. The one exception is a build.
+ * call leaves everything that was lent as it was. The exceptions are builds and mk_edits.
  *
  * A list is a pointer and a count of 32-bit words. A list's pointer and the pointer of a single
  * number are aligned to 4 bytes and not null; that of an empty list may be anything. What a call
@@ -39,8 +39,10 @@ enum mk_refusal {
     MK_CELL_OUTSIDE = 3,   /* a cell number is not below the capacity */
     MK_CELL_LIVE = 4,      /* insert: the number is live */
     MK_CELL_NOT_LIVE = 5,  /* the cell is not live */
-    MK_TYPE_UNKNOWN = 6,   /* type code not in the table, dimension not 1 to 3, or edition not 1 or 2 */
-    MK_COUNT_WRONG = 7,    /* wrong count of marks for the type or the lookup, or a build record cut short */
+    MK_TYPE_UNKNOWN = 6,   /* type code not in the table, dimension not 1 to 3, edition not 1 or 2, or kind
+                              of a listed edit not 1 or 2 */
+    MK_COUNT_WRONG = 7,    /* wrong count of marks for the type or the lookup, or a build record or a listed
+                              edit cut short */
     MK_MARK_OUTSIDE = 8,   /* a mark is not below the capacity */
     MK_MARK_TWICE = 9,     /* a mark occurs twice */
     MK_CELL_SAME = 10,     /* a live cell of that type has the same set of marks */
@@ -131,6 +133,24 @@ uint8_t mk_insert(uint32_t *mesh, size_t words, uint32_t cell, uint32_t type, co
 
 /* Remove: the cell of that number taken out. Refused with 14, 3, 5. */
 uint8_t mk_remove(uint32_t *mesh, size_t words, uint32_t cell);
+
+/* The kinds of a listed edit. */
+enum mk_kind {
+    MK_INSERT = 1, /* then a build record */
+    MK_REMOVE = 2  /* then a cell number */
+};
+
+/*
+ * Edits: a list of edits, made as if each were called in turn, up to the first that is refused; those
+ * before it stay. count is the count of words of all edits. made is written on every return: how many
+ * were made. tally is two words, of accepted and of refused edits: as many as were made are added to the
+ * first and, where the list is stopped, one to the second; a count at 4294967295 stays there. No answer
+ * depends on the tally. Refused with 14, for an empty list too, where made is 0; at an edit's turn with 6
+ * for another kind, then 7 for a missing number or type, then as mk_insert or mk_remove, where missing
+ * marks are 7.
+ */
+uint8_t mk_edits(uint32_t *mesh, size_t words, const uint32_t *edits, size_t count, uint32_t *tally,
+                 size_t *made);
 
 /*
  * Type: the type code of a cell. Refused with 14, 3, 5.

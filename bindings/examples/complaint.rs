@@ -1,9 +1,10 @@
 //! A complaint, start to end: a viaduct over a hillside, the cells around a
-//! mark, one removed, the cells again; and solids under the second edition.
+//! mark, one removed, the cells again; a morning's edits in one call; and solids
+//! under the second edition.
 //!
 //! `cargo run --example complaint`
 
-use mengkiloh::{Cell, Edition, Mark, Mesh, Refusal, Type};
+use mengkiloh::{Cell, Edition, Edits, Mark, Mesh, Refusal, Tally, Type};
 
 fn main() -> Result<(), Refusal> {
     // a hillside of two sheets that touch in mark 2, and over it a viaduct: a
@@ -24,6 +25,22 @@ fn main() -> Result<(), Refusal> {
         Ok(()) => println!("cell 5 stands"),
         Err(refusal) => println!("cell 5 is refused with {}", refusal.number()),
     }
+
+    // a morning's edits; the third is refused, and the fourth not made
+    let mut morning = Edits::new();
+    morning.remove(Cell(2));
+    morning.insert(Cell(6), Type::Bar, &[0, 8].map(Mark));
+    morning.remove(Cell(2));
+    morning.remove(Cell(0));
+    let mut tally = Tally::default();
+    match map.edits(&morning, &mut tally) {
+        Ok(made) => println!("{made} edits made"),
+        Err(stopped) => {
+            let number = stopped.refusal.number();
+            println!("{} edits made, then {number}", stopped.made);
+        }
+    }
+    println!("{} accepted, {} refused", tally.accepted, tally.refused);
 
     // under the second edition a face lies between two solids at most
     let mut harbour = Mesh::with_room_edition(6, 4, Edition::Second)?;

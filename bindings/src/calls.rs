@@ -38,6 +38,14 @@ extern "C" {
         count: usize,
     ) -> u8;
     pub fn mk_remove(mesh: *mut u32, words: usize, cell: u32) -> u8;
+    pub fn mk_edits(
+        mesh: *mut u32,
+        words: usize,
+        edits: *const u32,
+        count: usize,
+        tally: *mut u32,
+        made: *mut usize,
+    ) -> u8;
     pub fn mk_type(mesh: *const u32, words: usize, cell: u32, code: *mut u32) -> u8;
     pub fn mk_marks(mesh: *const u32, words: usize, cell: u32, at: *mut u32, count: *mut u32)
         -> u8;

@@ -38,7 +38,8 @@
 //!
 //! Every call is one of the proved library's, which this crate links; it adds
 //! no rule of its own. A call that is refused changes nothing and gives the
-//! [`Refusal`] with its number.
+//! [`Refusal`] with its number; a build refused at a record leaves a mesh with no
+//! cell, and a list of [`Edits`] that is stopped leaves those before.
 
 mod calls;
 mod numbers;
@@ -49,7 +50,7 @@ use std::fmt;
 
 use numbers::Register;
 pub use numbers::{Cell, Half, Mark, Way};
-pub use records::Records;
+pub use records::{Edits, Records, Tally};
 pub use refusal::Refusal;
 
 /// "Capacities: 0 to 65,535 marks and 0 to 65,535 cells."
@@ -186,6 +187,21 @@ impl fmt::Display for BuildRefused {
 }
 
 impl std::error::Error for BuildRefused {}
+
+/// A list of edits that was stopped: why, and how many were made before.
+#[derive(Clone, Copy, Debug, PartialEq, Eq)]
+pub struct EditsStopped {
+    pub refusal: Refusal,
+    pub made: usize,
+}
+
+impl fmt::Display for EditsStopped {
+    fn fmt(&self, to: &mut fmt::Formatter<'_>) -> fmt::Result {
+        write!(to, "after {} edits: {}", self.made, self.refusal)
+    }
+}
+
+impl std::error::Error for EditsStopped {}
 
 /// A mesh over words: a `Vec<u32>` of its own, or `&mut [u32]` or `&[u32]`
 /// that are lent to it.
@@ -333,6 +349,33 @@ impl<W: AsMut<[u32]>> Mesh<W> {
         let words = self.words.as_mut();
         // SAFETY: as in `format`.
         Refusal::from_number(unsafe { calls::mk_remove(words.as_mut_ptr(), words.len(), cell.0) })
+    }
+
+    /// Makes the edits in order up to the first that is refused; those before it
+    /// stay. How many were made; the tally counts them, and one refused where
+    /// the list was stopped.
+    pub fn edits(&mut self, edits: &Edits, tally: &mut Tally) -> Result<usize, EditsStopped> {
+        let edits = edits.words();
+        let words = self.words.as_mut();
+        let mut counts = [tally.accepted, tally.refused];
+        let mut made = 0;
+        // SAFETY: each pointer and count are those of one slice, the tally's of
+        // two words; what is written is lent to this call alone.
+        let answer = Refusal::from_number(unsafe {
+            calls::mk_edits(
+                words.as_mut_ptr(),
+                words.len(),
+                edits.as_ptr(),
+                edits.len(),
+                counts.as_mut_ptr(),
+                &mut made,
+            )
+        });
+        [tally.accepted, tally.refused] = counts;
+        match answer {
+            Ok(()) => Ok(made),
+            Err(refusal) => Err(EditsStopped { refusal, made }),
+        }
     }
 }
 

@@ -1,4 +1,4 @@
-//! What a build is made from.
+//! What a build is made from, and a list of edits.
 
 use crate::{numbers, Cell, Mark};
 
@@ -40,4 +40,64 @@ impl From<Vec<u32>> for Records {
     fn from(words: Vec<u32>) -> Records {
         Records(words)
     }
+}
+
+/// A list of edits in words: 1 and a build record to insert, 2 and a cell's
+/// number to remove.
+///
+/// ```
+/// use mengkiloh::{Cell, Edits, Mark, Mesh, Tally, Type};
+///
+/// # fn main() -> Result<(), Box<dyn std::error::Error>> {
+/// let mut map = Mesh::with_room(6, 4)?;
+/// let mut edits = Edits::new();
+/// edits.insert(Cell(0), Type::Triangle, &[0, 1, 2].map(Mark));
+/// edits.insert(Cell(1), Type::Bar, &[2, 3].map(Mark));
+/// edits.remove(Cell(0));
+/// let mut tally = Tally::default();
+/// assert_eq!(map.edits(&edits, &mut tally)?, 3);
+/// assert_eq!(tally.accepted, 3);
+/// # Ok(())
+/// # }
+/// ```
+#[derive(Clone, Debug, Default, PartialEq, Eq)]
+pub struct Edits(Vec<u32>);
+
+impl Edits {
+    const INSERT: u32 = 1;
+    const REMOVE: u32 = 2;
+
+    pub fn new() -> Edits {
+        Edits::default()
+    }
+
+    /// An insert more. It is checked at its turn, as it stands.
+    pub fn insert(&mut self, cell: Cell, code: impl Into<u32>, marks: &[Mark]) {
+        self.0.extend([Edits::INSERT, cell.0, code.into()]);
+        self.0.extend(numbers::words(marks));
+    }
+
+    /// A removal more.
+    pub fn remove(&mut self, cell: Cell) {
+        self.0.extend([Edits::REMOVE, cell.0]);
+    }
+
+    pub fn words(&self) -> &[u32] {
+        &self.0
+    }
+}
+
+impl From<Vec<u32>> for Edits {
+    /// Edits as they were stored or sent.
+    fn from(words: Vec<u32>) -> Edits {
+        Edits(words)
+    }
+}
+
+/// How many listed edits were accepted and how many refused. A count at its
+/// largest number stays there.
+#[derive(Clone, Copy, Debug, Default, PartialEq, Eq)]
+pub struct Tally {
+    pub accepted: u32,
+    pub refused: u32,
 }

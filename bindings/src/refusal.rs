@@ -2,7 +2,8 @@
 
 use std::fmt;
 
-/// Why a call was refused. A refused call changes nothing.
+/// Why a call was refused. A refused call changes nothing, save a build refused
+/// at a record and a list of edits that is stopped.
 #[derive(Clone, Copy, Debug, PartialEq, Eq, PartialOrd, Ord, Hash)]
 #[repr(u8)]
 pub enum Refusal {
@@ -57,9 +58,12 @@ impl Refusal {
             Refusal::CellLive => "the cell number is live already",
             Refusal::CellNotLive => "the cell is not live",
             Refusal::TypeUnknown => {
-                "no such type, a dimension that is not 1 to 3, or an edition that is not 1 or 2"
+                "no such type, a dimension that is not 1 to 3, an edition that is not 1 or 2, \
+                 or a listed edit's kind that is not 1 or 2"
             }
-            Refusal::CountWrong => "wrong count of marks, or a build record cut short",
+            Refusal::CountWrong => {
+                "wrong count of marks, or a build record or a listed edit cut short"
+            }
             Refusal::MarkOutside => "a mark is not below the capacity",
             Refusal::MarkTwice => "a mark occurs twice",
             Refusal::CellSame => "a live cell of that type has the same marks",

@@ -7,7 +7,7 @@
 mod common;
 
 use common::{marks, plain, told, Chance, Number, Question, SENTINEL};
-use mengkiloh::{room, Cell, Mark, Mesh, Records, Refusal};
+use mengkiloh::{room, Cell, Edits, Mark, Mesh, Records, Refusal, Tally};
 use second::shapes::type_with_code;
 use streams::lattice;
 
@@ -187,7 +187,7 @@ fn one_call(chance: &mut Chance, words: &mut Vec<u32>) -> u64 {
         [_, marks @ 0..=65_535, cells @ 0..=65_535, ..] => room(*marks, *cells),
         _ => usize::MAX,
     };
-    match chance.below(8) {
+    match chance.below(9) {
         0 => {
             let mut mesh = Mesh::over(&mut words[..]);
             if !edit(chance, &mut mesh) {
@@ -230,6 +230,7 @@ fn one_call(chance: &mut Chance, words: &mut Vec<u32>) -> u64 {
             return 2;
         }
         3 => lists_leave_the_rest(chance, words),
+        4 => some_edits(chance, words),
         _ => {
             let question = draw(chance);
             question.to_library(&Mesh::over(&words[..]));
@@ -240,6 +241,39 @@ fn one_call(chance: &mut Chance, words: &mut Vec<u32>) -> u64 {
         assert_eq!(words[end..], before[end..], "nothing beyond the room");
     }
     1
+}
+
+/// A list of edits, or of any words: one that made none changes nothing, and the
+/// tally counts what was made and whether it was stopped.
+fn some_edits(chance: &mut Chance, words: &mut [u32]) {
+    let before = words.to_vec();
+    let mut list = Vec::new();
+    for _ in 0..chance.below(4) {
+        let (code, drawn) = lattice::draw(chance, lattice::side(MARKS));
+        match chance.below(3) {
+            0 => list.extend([2, chance.below(CELLS + 1)]),
+            1 => list.extend((0..chance.below(8)).map(|_| chance.below(8))),
+            _ => {
+                list.extend([1, chance.below(CELLS + 1), code]);
+                list.extend(drawn);
+            }
+        }
+    }
+    let mut tally = Tally {
+        accepted: u32::MAX - chance.below(4),
+        refused: chance.below(2),
+    };
+    let was = tally;
+    let answer = Mesh::over(&mut *words).edits(&Edits::from(list), &mut tally);
+    let (made, stopped) = match answer {
+        Ok(made) => (made, 0),
+        Err(stopped) => (stopped.made, 1),
+    };
+    assert_eq!(tally.accepted, was.accepted.saturating_add(made as u32));
+    assert_eq!(tally.refused, was.refused + stopped);
+    if made == 0 {
+        assert_eq!(words, before, "no edit, no change");
+    }
 }
 
 /// A list that is refused leaves the output, one that is given only its first

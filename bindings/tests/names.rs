@@ -3,7 +3,7 @@
 
 use std::path::Path;
 
-use mengkiloh::{Edition, Refusal, Type, Way};
+use mengkiloh::{Cell, Edition, Edits, Mark, Refusal, Type, Way};
 
 /// What stands between the braces behind `opening` in a file of the repository.
 fn braced(file: &str, opening: &str) -> String {
@@ -130,6 +130,23 @@ fn the_ways_are_0_to_3() {
     use second::Way::*;
     let theirs = [Lone, Same, Opposite, Neither].map(|way| (format!("{way:?}"), way.number()));
     assert_eq!(theirs, ways.map(|way| (format!("{way:?}"), way.into())));
+}
+
+/// The kinds of a listed edit: here, in the header and in the second program.
+#[test]
+fn the_kinds_of_edits_are_1_and_2() {
+    let mut edits = Edits::new();
+    edits.remove(Cell(7));
+    assert_eq!(edits.words(), [second::calls::REMOVE, 7]);
+    edits.insert(Cell(8), Type::Bar, &[5, 6].map(Mark));
+    assert_eq!(edits.words()[2..], [second::calls::INSERT, 8, 1, 5, 6]);
+    let inside = braced("include/mengkiloh.h", "enum mk_kind {");
+    let rows: Vec<&str> = inside
+        .lines()
+        .filter_map(|line| line.trim().strip_prefix("MK_")?.split([',', '/']).next())
+        .map(str::trim)
+        .collect();
+    assert_eq!(rows, ["INSERT = 1", "REMOVE = 2"]);
 }
 
 #[test]

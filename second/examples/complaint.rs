@@ -1,6 +1,6 @@
 //! What the examples of the library say, by the definitions.
 
-use second::{room, Memory, Refusal};
+use second::{room, Memory, Refusal, Tally};
 
 fn main() -> Result<(), Refusal> {
     let mut map = Memory::lent(room(9, 8));
@@ -20,6 +20,14 @@ fn main() -> Result<(), Refusal> {
         Ok(()) => println!("cell 5 stands"),
         Err(refusal) => println!("cell 5 is refused with {}", refusal.number()),
     }
+
+    let morning = [2, 2, 1, 6, 1, 0, 8, 2, 2, 2, 0];
+    let mut tally = Tally::default();
+    match map.edits(&morning, &mut tally) {
+        Ok(made) => println!("{made} edits made"),
+        Err((refusal, made)) => println!("{made} edits made, then {}", refusal.number()),
+    }
+    println!("{} accepted, {} refused", tally.accepted, tally.refused);
 
     let mut harbour = Memory::lent(room(6, 4));
     harbour.format_edition(6, 4, 2)?;

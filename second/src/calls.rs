@@ -5,7 +5,8 @@
 //! follows. Format: 1, 2. Insert: 3, 4, 6, 7, 8, 9, 10, 11. Remove: 3, 5.
 //! Queries: 3, 5, 13, 6, 7, 8, 9, 12, those that apply." Request 8 adds "6 for
 //! another edition, before 1 and like it; 19 for the third solid, after 10 and
-//! before 11". Numbers come in uncut, as whole 32-bit words. A half-facet is
+//! before 11". A list of edits, request 2's, has 14 first and then, at an edit's
+//! turn, 6 for its kind and 7 for a missing number or type. Numbers come in uncut, as whole 32-bit words. A half-facet is
 //! answered as its number; with a sibling, a walker's step and each entry of a
 //! cycle comes which way its sibling runs (request 6).
 
@@ -56,6 +57,19 @@ pub struct Memory {
     pub words: usize,
     pub mesh: Option<Mesh>,
 }
+
+/// "a tally of accepted and refused edits, one small record lent to each call and
+/// updated in place"
+#[derive(Clone, Copy, Debug, Default, PartialEq, Eq)]
+pub struct Tally {
+    pub accepted: u32,
+    pub refused: u32,
+}
+
+/// The kinds of a listed edit: "1 and a build record to insert, 2 and a cell
+/// number to remove".
+pub const INSERT: u32 = 1;
+pub const REMOVE: u32 = 2;
 
 /// "A walker over one sibling cycle holds its place and hands back its next
 /// place".
@@ -173,6 +187,42 @@ impl Memory {
         is_live(mesh, number)?;
         self.change(|live| live.retain(|cell| cell.number != number));
         Ok(())
+    }
+
+    /// "In one call take a list of edits .., result and memory as if called one
+    /// by one, stopping at the first refusal; the edits before it stay." Answers
+    /// "the number made and, if it stopped, the refusal". 14 comes first, "for an
+    /// empty list too".
+    pub fn edits(&mut self, list: &[u32], tally: &mut Tally) -> Result<usize, (Refusal, usize)> {
+        let answer = self.one_by_one(list);
+        tally.count(&answer);
+        answer
+    }
+
+    fn one_by_one(&mut self, list: &[u32]) -> Result<usize, (Refusal, usize)> {
+        self.held().map_err(|refusal| (refusal, 0))?;
+        let mut left = list;
+        let mut made = 0;
+        while !left.is_empty() {
+            left = self.listed_edit(left).map_err(|refusal| (refusal, made))?;
+            made += 1;
+        }
+        Ok(made)
+    }
+
+    /// "at an edit's turn, before its other checks, 6 for a kind neither insert
+    /// nor remove, then 7 for a missing number or type; missing marks are 7 in
+    /// its place". Answers the words after the edit.
+    fn listed_edit<'a>(&mut self, words: &'a [u32]) -> Result<&'a [u32], Refusal> {
+        match words {
+            [INSERT, record @ ..] => self.insert_record(record),
+            [REMOVE, cell, after @ ..] => {
+                self.remove(*cell)?;
+                Ok(after)
+            }
+            [REMOVE] => Err(Refusal::CountWrong),
+            _ => Err(Refusal::TypeUnknown),
+        }
     }
 
     /// The edition: 14.
@@ -327,6 +377,20 @@ impl Memory {
     fn queried_half_facet(&self, cell: u32, facet: u32) -> Result<HalfFacet, Refusal> {
         let cell = self.queried_cell(cell)?;
         facet_below_count(cell, facet)
+    }
+}
+
+impl Tally {
+    /// "a stopped list adds one refused, and a count at its largest number stays
+    /// there"
+    fn count(&mut self, answer: &Result<usize, (Refusal, usize)>) {
+        let (made, stopped) = match answer {
+            Ok(made) => (*made, 0),
+            Err((_, made)) => (*made, 1),
+        };
+        let made = u32::try_from(made).unwrap_or(u32::MAX);
+        self.accepted = self.accepted.saturating_add(made);
+        self.refused = self.refused.saturating_add(stopped);
     }
 }
 

@@ -10,12 +10,13 @@
 //! with many faces, a build refused at the third solid on a face, and third
 //! solids on faces in crossed order, on a triangle and on a quad, some of them
 //! accepted after a removal; siblings that run every way, at bar ends, edges and
-//! faces of three and four marks. `bound` lines are the outline's "To run":
+//! faces of three and four marks; lists of edits, all made and stopped in each
+//! way, with a tally up to its largest counts. `bound` lines are the outline's "To run":
 //! capacities, editions, rooms, a mark's 128th and 129th cell, lists that fit
 //! exactly and lists one place too long.
 
 use crate::calls::{FIRST_EDITION, SECOND_EDITION};
-use crate::{Memory, Refusal, Walker, Way};
+use crate::{Memory, Refusal, Tally, Walker, Way};
 use std::fmt::Write;
 
 const BAR: u32 = 1;
@@ -255,6 +256,35 @@ const WAYS_OF_SOLIDS: &[Case] = &[case(
     ],
 )];
 
+/// The counts of a tally before, and a list of edits.
+type Morning = (u32, u32, &'static [u32]);
+
+const MOST: u32 = u32::MAX;
+
+#[rustfmt::skip]
+const MORNINGS: &[Morning] = &[
+    (0, 0, &[]),
+    (0, 0, &[1, 0, 2, 0, 1, 2, 1, 1, 2, 2, 1, 3, 2, 0]),
+    (3, 0, &[2, 1, 2, 1, 1, 0, 2, 0, 1, 2]),
+    (4, 1, &[1, 0, 2, 0, 1, 2, 3, 1]),
+    (5, 2, &[0]),
+    (5, 2, &[2]),
+    (5, 2, &[1]),
+    (5, 2, &[1, 1]),
+    (5, 2, &[1, 1, 8]),
+    (5, 2, &[1, 9, 2]),
+    (5, 2, &[1, 0, 2]),
+    (5, 2, &[1, 1, 2, 0, 1]),
+    (5, 2, &[1, 1, 2, 2, 1, 0]),
+    (5, 2, &[1, 1, 3, 0, 1, 2, 3, 2, 0, 1, 0, 4, 0, 1, 2, 3]),
+    (MOST - 1, MOST - 1, &[2, 0, 2, 1, 2, 1]),
+    (MOST, MOST, &[1, 0, 2, 0, 1, 2, 2, 3]),
+    (MOST - 1, MOST, &[1, 1, 2, 0, 1, 3]),
+];
+
+/// Of memory that is no mesh.
+const WITHOUT_MESH: &[Morning] = &[(0, 0, &[]), (7, MOST - 1, &[2, 0]), (7, MOST, &[3])];
+
 /// All of it, one answer or one group of answers a line.
 pub fn text() -> String {
     let mut text = Text::default();
@@ -265,6 +295,7 @@ pub fn text() -> String {
     text.solids(LIMITED_SOLIDS, SECOND_EDITION);
     text.small(WAYS, FIRST_EDITION);
     text.solids(WAYS_OF_SOLIDS, FIRST_EDITION);
+    text.mornings();
     text.formats();
     text.editions();
     text.full_mark();
@@ -403,6 +434,33 @@ impl Text {
                 self.line(format!("{name} remove {cell}: {answer}"));
             }
         }
+    }
+
+    /// Lists of edits, one after the other.
+    fn mornings(&mut self) {
+        let mut memory = Memory::lent(WORDS);
+        memory.format(MARKS, CELLS).expect("the room is exact");
+        for morning in MORNINGS {
+            self.morning("R35", &mut memory, morning);
+        }
+        self.everything("R35", &memory);
+        for morning in WITHOUT_MESH {
+            self.morning("R36", &mut Memory::lent(WORDS), morning);
+        }
+    }
+
+    fn morning(&mut self, name: &str, memory: &mut Memory, morning: &Morning) {
+        let &(accepted, refused, list) = morning;
+        let mut tally = Tally { accepted, refused };
+        let made = match memory.edits(list, &mut tally) {
+            Ok(made) => made.to_string(),
+            Err((refusal, made)) => format!("{made} refused {}", refusal.number()),
+        };
+        let list = list.to_vec().says();
+        self.line(format!(
+            "{name} edits {list}: made {made}, tally {accepted} {refused} to {} {}",
+            tally.accepted, tally.refused
+        ));
     }
 
     /// Every query with every argument, each also one past its range; and the

@@ -20,6 +20,6 @@ pub mod map;
 pub mod refusal;
 pub mod shapes;
 
-pub use calls::{room, Memory, Mesh, Walker};
+pub use calls::{room, Memory, Mesh, Tally, Walker};
 pub use map::Way;
 pub use refusal::Refusal;

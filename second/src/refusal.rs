@@ -59,10 +59,12 @@ impl Refusal {
             Refusal::CellLive => "insert: the number is live",
             Refusal::CellNotLive => "the cell is not live",
             Refusal::TypeUnknown => {
-                "type code not in the table, dimension not 1 to 3, or edition not 1 or 2"
+                "type code not in the table, dimension not 1 to 3, edition not 1 or 2, \
+                 or a listed edit's kind not 1 or 2"
             }
             Refusal::CountWrong => {
-                "wrong count of marks for the type or the lookup, or a build record cut short"
+                "wrong count of marks for the type or the lookup, or a build record or listed edit \
+                 cut short"
             }
             Refusal::MarkOutside => "a mark is not below the capacity",
             Refusal::MarkTwice => "a mark occurs twice",

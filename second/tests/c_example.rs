@@ -5,7 +5,8 @@
 mod common;
 
 use common::maps::{BAR, HEXA, PENTA, PYRA, QUAD, TETRA, TRI};
-use second::{room, Memory, Refusal};
+use second::calls::{INSERT, REMOVE};
+use second::{room, Memory, Refusal, Tally};
 use std::fmt::Write;
 
 const MARKS: u32 = 22;
@@ -42,6 +43,15 @@ const THIRD: [u32; 24] = [
 ];
 const OTHER_PIER: [u32; 5] = [16, 18, 17, 19, 11];
 
+/// Lists of edits.
+const MORNING: &[u32] = &[REMOVE, 4, REMOVE, 1, INSERT, 9, BAR, 6, 10, REMOVE, 5];
+const STOPPED: &[u32] = &[INSERT, 4, QUAD, 5, 0, 8, 9, REMOVE, 1, REMOVE, 9];
+const OTHER_KIND: &[u32] = &[REMOVE, 9, 3, 1];
+const NO_NUMBER: &[u32] = &[REMOVE];
+const NO_TYPE: &[u32] = &[INSERT, 1];
+const FEW_MARKS: &[u32] = &[INSERT, 1, TRI, 0, 2];
+const BACK: &[u32] = &[INSERT, 1, TRI, 0, 2, 3, INSERT, 5, TRI, 0, 5, 10];
+
 #[test]
 fn the_example_in_c_prints_what_the_definitions_answer() {
     let expected = include_str!("../../tests/c/expected");
@@ -75,6 +85,7 @@ fn text() -> String {
     lines.verdict("insert 9", memory.insert(9, TRI, &WALL));
     lines.all(&memory);
     lines.second_edition(&mut memory);
+    lines.mornings(&mut memory);
     lines.0
 }
 
@@ -160,6 +171,30 @@ impl Lines {
         self.all(memory);
         self.build(memory, &RECORDS);
         self.edition(memory);
+    }
+
+    fn edits(&mut self, memory: &mut Memory, list: &[u32], accepted: u32, refused: u32) {
+        let mut tally = Tally { accepted, refused };
+        let answer = memory.edits(list, &mut tally);
+        let made = answer.unwrap_or_else(|(_, made)| made) as u32;
+        let counts = word(Some(tally.accepted)) + &word(Some(tally.refused));
+        let refusal = answer.map_err(|(refusal, _)| refusal);
+        self.say("edits", number(&refusal), &[word(Some(made)), counts]);
+    }
+
+    fn mornings(&mut self, memory: &mut Memory) {
+        self.edits(memory, &[], 0, 0);
+        self.edits(&mut Memory::lent(15), &[], 0, 0);
+        self.edits(&mut Memory::lent(15), MORNING, 7, 8);
+        self.edits(memory, MORNING, 0, 0);
+        self.edits(memory, STOPPED, 4, 0);
+        self.edits(memory, OTHER_KIND, 5, 1);
+        self.edits(memory, NO_NUMBER, 6, 2);
+        self.edits(memory, NO_TYPE, 6, 3);
+        self.edits(memory, FEW_MARKS, u32::MAX, u32::MAX);
+        self.all(memory);
+        self.edits(memory, BACK, u32::MAX - 1, 9);
+        self.whole(memory);
     }
 
     fn star(&mut self, memory: &Memory, dimension: u32, mark: u32, room: usize) {

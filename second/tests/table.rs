@@ -111,8 +111,8 @@ fn the_refusals_are_the_outlines() {
 3: a cell number is not below the capacity
 4: insert: the number is live
 5: the cell is not live
-6: type code not in the table, dimension not 1 to 3, or edition not 1 or 2
-7: wrong count of marks for the type or the lookup, or a build record cut short
+6: type code not in the table, dimension not 1 to 3, edition not 1 or 2, or a listed edit's kind not 1 or 2
+7: wrong count of marks for the type or the lookup, or a build record or listed edit cut short
 8: a mark is not below the capacity
 9: a mark occurs twice
 10: a live cell of that type has the same set of marks

@@ -45,6 +45,15 @@ static const uint32_t third[] = {
     12, MK_PYRA_5, 16, 18, 17, 19, 11,             /* */
 };
 
+/* lists of edits */
+static const uint32_t morning[] = {MK_REMOVE, 4, MK_REMOVE, 1, MK_INSERT, 9, MK_BAR_2, 6, 10, MK_REMOVE, 5};
+static const uint32_t stopped[] = {MK_INSERT, 4, MK_QUAD_4, 5, 0, 8, 9, MK_REMOVE, 1, MK_REMOVE, 9};
+static const uint32_t other_kind[] = {MK_REMOVE, 9, 3, 1};
+static const uint32_t no_number[] = {MK_REMOVE};
+static const uint32_t no_type[] = {MK_INSERT, 1};
+static const uint32_t few_marks[] = {MK_INSERT, 1, MK_TRI_3, 0, 2};
+static const uint32_t back[] = {MK_INSERT, 1, MK_TRI_3, 0, 2, 3, MK_INSERT, 5, MK_TRI_3, 0, 5, 10};
+
 static uint32_t mesh[WORDS];
 static uint32_t list[PLACES];
 static uint32_t ways[PLACES];
@@ -268,6 +277,31 @@ static void second_edition(void)
     edition();
 }
 
+static void edits(size_t words, const uint32_t *list_of, size_t count, uint32_t accepted, uint32_t refused)
+{
+    uint32_t tally[] = {accepted, refused};
+    size_t made = 99;
+    uint8_t refusal = mk_edits(mesh, words, list_of, count, tally, &made);
+    printf("edits: %u; %u; %u %u\n", refusal, (uint32_t)made, tally[0], tally[1]);
+}
+
+/* A morning's edits in one call. */
+static void mornings(void)
+{
+    edits(WORDS, morning, 0, 0, 0);
+    edits(15, morning, 0, 0, 0);
+    edits(15, morning, sizeof morning / sizeof morning[0], 7, 8);
+    edits(WORDS, morning, sizeof morning / sizeof morning[0], 0, 0);
+    edits(WORDS, stopped, sizeof stopped / sizeof stopped[0], 4, 0);
+    edits(WORDS, other_kind, sizeof other_kind / sizeof other_kind[0], 5, 1);
+    edits(WORDS, no_number, sizeof no_number / sizeof no_number[0], 6, 2);
+    edits(WORDS, no_type, sizeof no_type / sizeof no_type[0], 6, 3);
+    edits(WORDS, few_marks, sizeof few_marks / sizeof few_marks[0], 4294967295u, 4294967295u);
+    all();
+    edits(WORDS, back, sizeof back / sizeof back[0], 4294967294u, 9);
+    whole();
+}
+
 int main(void)
 {
     const uint32_t wall[] = {0, 5, 10};
@@ -294,5 +328,6 @@ int main(void)
     say_verdict("insert 9", mk_insert(mesh, WORDS, 9, MK_TRI_3, wall, 3));
     all();
     second_edition();
+    mornings();
     return 0;
 }

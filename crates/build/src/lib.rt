@@ -23,7 +23,7 @@ use words::part;
 use words::word;
 
 // Where the record from a place on ends: behind its marks, or with the words.
-fn record_end(records: &[u32], at: usize) -> usize
+pub fn record_end(records: &[u32], at: usize) -> usize
     ensures { λ r. ⌜ r ≡ min (at + width (now (records .entry)) at) (length (now (records .entry))) ⌝ }
 {
     let len = records.len();
@@ -38,7 +38,7 @@ fn record_end(records: &[u32], at: usize) -> usize
 }
 
 // The record between two places, inserted.
-fn one_record(w: &mut [u32], records: &[u32], at: usize, end: usize) -> Verdict
+pub fn one_record(w: &mut [u32], records: &[u32], at: usize, end: usize) -> Verdict
     ensures { λ r. ⌜ Recorded (now (w .entry)) (now (records .entry)) at end r (now (w .exit)) ⌝ }
 {
     if end < 2 {

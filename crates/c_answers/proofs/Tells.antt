@@ -6,12 +6,14 @@ use native.Mathlib.Omega.{arith}
 use borrow.Author.Tests.{ne-eqb}
 use Rattle.lists.specs.Lists.{first}
 use Rattle.map.specs.Answers.{Answer}
-use Rattle.map.specs.Says.{numberOf, given, refused, verdictSays, builtSays}
+use Rattle.map.specs.Says.{numberOf, given, refused, verdictSays, builtSays, editsSays}
 use Rattle.map.specs.declared.Refusal.{Refusal}
 use Rattle.map.specs.declared.Verdict.{Verdict}
 use Rattle.map.specs.declared.Verdict.the-variants as Verdict′
 use Rattle.map.specs.declared.Built.{Built}
 use Rattle.map.specs.declared.Built.the-variants as Built′
+use Rattle.map.specs.declared.Edits.{Edits}
+use Rattle.map.specs.declared.Edits.the-variants as Edits′
 use Rattle.map.proofs.Refusals.{number-some}
 use Rattle.c_answers.specs.Told.{Told, ToldTwo, ToldFound}
 
@@ -68,3 +70,8 @@ module _ (v : Verdict) where
 pub built-refused : (b : Built) (x : ℕ) (why : Refusal) (place r : ℕ) → b ≡ Built′.Refused why place → r ≡ numberOf why → Told (builtSays b) x r place
 unfolding builtSays first
 built-refused b x why place r e q = record { number = rw (e, q); value = rw e }
+
+-- a list of edits has the number made
+pub edits-stopped : (e : Edits) (x : ℕ) (why : Refusal) (made r : ℕ) → e ≡ Edits′.Stopped made why → r ≡ numberOf why → Told (editsSays e) x r made
+unfolding editsSays first
+edits-stopped e x why made r q n = record { number = rw (q, n); value = rw q }

@@ -2,11 +2,12 @@
 //
 // What is here: a function for each answer enum of crates/map. What is proved: the number is the answer's refusal, and the lent word is
 // the answer's value, or as it was where the answer has none (specs/Told.antt). What a caller should know: a refused build has a value,
-// the place of its record; every other answer has one only where it is accepted.
+// the place of its record, and a list of edits has one always, the number made; every other answer has one only where it is accepted.
 ghost use mathlib.Core.Path.{_≡_};
-ghost use Rattle.map.specs.Says.{numberOf, verdictSays, valueSays, halfSays, truthSays, builtSays, foundSays};
+ghost use Rattle.map.specs.Says.{numberOf, verdictSays, valueSays, halfSays, truthSays, builtSays, foundSays, editsSays};
 ghost use Rattle.c_answers.specs.Told.{Told, ToldTwo, ToldFound};
 use map::Built;
+use map::Edits;
 use map::Found;
 use map::HalfAt;
 use map::Refusal;
@@ -103,6 +104,22 @@ pub fn tell_built(b: Built, x: &mut u32) -> u8
         Built::Accepted => 0,
         Built::Refused(why, place) => {
             *x = place;
+            byte_of(why)
+        }
+    }
+}
+
+// How many edits were made; all of them, or why the list stopped.
+pub fn tell_edits(e: Edits, made: &mut usize) -> u8
+    ensures { λ r. ⌜ Told (editsSays e) (now (made .entry)) r (now (made .exit)) ⌝ }
+{
+    match e {
+        Edits::Made(all) => {
+            *made = all;
+            0
+        }
+        Edits::Stopped(first, why) => {
+            *made = first;
             byte_of(why)
         }
     }

@@ -12,6 +12,9 @@ use ask::marks_of;
 use ask::sibling;
 use ask::type_of;
 use build::build_edition;
+use edits::Tally;
+use edits::make_edits;
+use edits::tallied;
 use format::format;
 use format::format_edition;
 use libc::STDOUT_FILENO;
@@ -22,6 +25,7 @@ use listing::lookup;
 use listing::neighbours;
 use listing::star;
 use map::Built;
+use map::Edits;
 use map::Found;
 use map::HalfAt;
 use map::Refusal;
@@ -583,6 +587,43 @@ fn try_edits(w: &mut [u32], p: u32) {
     }
 }
 
+fn say_made(m: Edits) {
+    match m {
+        Edits::Made(n) => say_size(n),
+        Edits::Stopped(n, why) => {
+            say_size(n);
+            say_refusal(why);
+        }
+    }
+}
+
+// A tally of these counts, and what it is after a list.
+fn say_tally(accepted: u32, refused: u32, made: Edits) {
+    say(b", tally");
+    say_number(accepted);
+    say_number(refused);
+    let tally = Tally {
+        accepted: accepted,
+        refused: refused,
+    };
+    let after = tallied(tally, made);
+    say(b" to");
+    say_number(after.accepted);
+    say_number(after.refused);
+}
+
+// A list of edits, with a tally of these counts.
+fn try_list(w: &mut [u32], p: u32, accepted: u32, refused: u32, list: &[u32]) {
+    say_case(p);
+    say(b" edits");
+    say_numbers(list, list.len());
+    say(b": made");
+    let made = make_edits(w, list);
+    say_made(made);
+    say_tally(accepted, refused, made);
+    say(b"\n");
+}
+
 fn run_case(w: &mut [u32], p: u32, e: u32) {
     let row = records(p);
     let n = size(p);
@@ -626,6 +667,69 @@ fn limited() {
 fn no_mesh() {
     let w = [0u32; 184];
     everything(&w, 25);
+}
+
+// A morning's edits, list by list: made, and stopped at an edit.
+fn run_made(w: &mut [u32]) {
+    try_list(w, 35, 0, 0, &[]);
+    try_list(w, 35, 0, 0, &[1, 0, 2, 0, 1, 2, 1, 1, 2, 2, 1, 3, 2, 0]);
+    try_list(w, 35, 3, 0, &[2, 1, 2, 1, 1, 0, 2, 0, 1, 2]);
+    try_list(w, 35, 4, 1, &[1, 0, 2, 0, 1, 2, 3, 1]);
+}
+
+// Kinds that are none, and a number or type that is missing.
+fn run_short(w: &mut [u32]) {
+    try_list(w, 35, 5, 2, &[0]);
+    try_list(w, 35, 5, 2, &[2]);
+    try_list(w, 35, 5, 2, &[1]);
+    try_list(w, 35, 5, 2, &[1, 1]);
+}
+
+// The insert's own refusals, with marks missing or not.
+fn run_own(w: &mut [u32]) {
+    try_list(w, 35, 5, 2, &[1, 1, 8]);
+    try_list(w, 35, 5, 2, &[1, 9, 2]);
+    try_list(w, 35, 5, 2, &[1, 0, 2]);
+    try_list(w, 35, 5, 2, &[1, 1, 2, 0, 1]);
+    try_list(w, 35, 5, 2, &[1, 1, 2, 2, 1, 0]);
+}
+
+// A list of edits of both kinds and more types, all made.
+fn run_all(w: &mut [u32]) {
+    try_list(
+        w,
+        35,
+        5,
+        2,
+        &[1, 1, 3, 0, 1, 2, 3, 2, 0, 1, 0, 4, 0, 1, 2, 3],
+    );
+}
+
+// A count at its largest number stays there.
+fn run_counts(w: &mut [u32]) {
+    try_list(w, 35, 4294967294, 4294967294, &[2, 0, 2, 1, 2, 1]);
+    try_list(w, 35, 4294967295, 4294967295, &[1, 0, 2, 0, 1, 2, 2, 3]);
+    try_list(w, 35, 4294967294, 4294967295, &[1, 1, 2, 0, 1, 3]);
+}
+
+// "14 first, for an empty list too"
+fn run_none(w: &mut [u32]) {
+    try_list(w, 36, 0, 0, &[]);
+    try_list(w, 36, 7, 4294967294, &[2, 0]);
+    try_list(w, 36, 7, 4294967295, &[3]);
+}
+
+fn mornings() {
+    let mut w = [0u32; 184];
+    format(&mut w, MARKS, CELLS);
+    run_made(&mut w);
+    run_short(&mut w);
+    run_own(&mut w);
+    run_all(&mut w);
+    run_counts(&mut w);
+    everything(&w, 35);
+    let mut none = [0u32; 184];
+    run_none(&mut none);
 }
 
 fn try_format(w: &mut [u32], marks: u32, cells: u32) {
@@ -835,6 +939,7 @@ fn main() {
     no_mesh();
     limited();
     every_way();
+    mornings();
     formats();
     editions();
     full_mark();

@@ -3,3 +3,4 @@ pub mod Cases
 pub mod Refusals
 pub mod Ways
 pub mod Says
+pub mod Mornings

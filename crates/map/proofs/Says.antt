@@ -18,11 +18,13 @@ use Rattle.map.specs.declared.Truth.{Truth}
 use Rattle.map.specs.declared.Truth.the-variants as Truth′
 use Rattle.map.specs.declared.Built.{Built}
 use Rattle.map.specs.declared.Built.the-variants as Built′
+use Rattle.map.specs.declared.Edits.{Edits}
+use Rattle.map.specs.declared.Edits.the-variants as Edits′
 use Rattle.map.specs.Answers.{Answer}
 use Rattle.map.specs.Ways.{wayAt}
 use Rattle.map.proofs.Refusals.{refusals, number-back}
 use Rattle.map.proofs.Ways.{way-back}
-use Rattle.map.specs.Says.{numberOf, given, refused, verdictSays, valueSays, halfSays, foundSays, truthSays, builtSays}
+use Rattle.map.specs.Says.{numberOf, given, refused, verdictSays, valueSays, halfSays, foundSays, truthSays, builtSays, editsSays}
 
 -- what an answer was, read back: accepted with its values, or refused
 module _ {A : Type 0} (accepted : List ℕ → A) (refusing : Refusal → List ℕ → A) where
@@ -128,3 +130,17 @@ built-one = one builtSays (back wasBuilt notBuilt) again
     again : (x : Built) → back wasBuilt notBuilt (builtSays x) ≡ x
     again Built′.Accepted = refl
     again (Built′.Refused r place) = back-refused wasBuilt notBuilt r (place ∷ [])
+
+wasEdits : List ℕ → Edits
+wasEdits values = Edits′.Made (getD values 0 0)
+
+notEdits : Refusal → List ℕ → Edits
+notEdits r values = Edits′.Stopped (getD values 0 0) r
+
+pub edits-one : (x y : Edits) → editsSays x ≡ editsSays y → x ≡ y
+unfolding editsSays given refused back wasEdits notEdits
+edits-one = one editsSays (back wasEdits notEdits) again
+  where
+    again : (x : Edits) → back wasEdits notEdits (editsSays x) ≡ x
+    again (Edits′.Made n) = refl
+    again (Edits′.Stopped n r) = back-refused wasEdits notEdits r (n ∷ [])

@@ -6,6 +6,7 @@ pub mod Stars
 pub mod Answers
 pub mod Says
 pub mod History
+pub mod Morning
 pub mod Afresh
 pub mod Sound
 pub mod Cases

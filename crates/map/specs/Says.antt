@@ -15,6 +15,8 @@ use Rattle.map.specs.declared.Truth.{Truth}
 use Rattle.map.specs.declared.Truth.the-variants as Truth′
 use Rattle.map.specs.declared.Built.{Built}
 use Rattle.map.specs.declared.Built.the-variants as Built′
+use Rattle.map.specs.declared.Edits.{Edits}
+use Rattle.map.specs.declared.Edits.the-variants as Edits′
 use Rattle.map.specs.Answers.{Answer}
 use Rattle.map.specs.Ways.{wayNumber}
 
@@ -68,3 +70,8 @@ truthSays (Truth′.Refused r) = refused r
 unfoldable pub builtSays : Built → Answer
 builtSays Built′.Accepted = given []
 builtSays (Built′.Refused r place) = record { refusal = numberOf r; values = place ∷ [] }
+
+-- a list of edits gives the number made, stopped or not
+unfoldable pub editsSays : Edits → Answer
+editsSays (Edits′.Made n) = given (n ∷ [])
+editsSays (Edits′.Stopped n r) = record { refusal = numberOf r; values = n ∷ [] }

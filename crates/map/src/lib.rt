@@ -1,7 +1,7 @@
 // The map: what the outline's words mean, and what each call answers.
 //
 // What is here: in specs/ the definitions, over the live cells alone (Cells, Siblings, Groups, Stars), the
-// answers with their refusals in the listed order (Answers), the history (History) and the twelve cases (Cases); in
+// answers with their refusals in the listed order (Answers), the history (History), a morning's edits (Morning) and the twelve cases (Cases); in
 // src/ the refusals, the ways of a sibling and the answers as enums, each case with the outline's number in specs/Says.antt
 // and specs/Ways.antt. What is proved: `number_of` and `way_number` give that number; the twelve cases hold
 // (proofs/Cases.antt); an answer of the outline is that of one enum value alone (proofs/Says.antt). What a caller should know: the laws of these definitions are in crate `laws`.
@@ -110,4 +110,10 @@ pub enum Truth {
 pub enum Built {
     Accepted,
     Refused(Refusal, u32),
+}
+
+// A list of edits: how many were made, and why it stopped if it did.
+pub enum Edits {
+    Made(usize),
+    Stopped(usize, Refusal),
 }

@@ -3,3 +3,4 @@ pub mod Plain
 pub mod Queries
 pub mod Places
 pub mod Edits
+pub mod Mornings

@@ -14,6 +14,7 @@ ghost use Rattle.map.specs.Stars.{star, anchors};
 ghost use Rattle.map.specs.History.{Insert, Remove};
 ghost use Rattle.mesh_c.specs.Answered.{Answered, Faced, Sought, Listed, ListedTwo, MarksTold, Judged};
 ghost use Rattle.mesh_c.specs.Changed.{Emptied, Raised, Changed};
+ghost use Rattle.mesh_c.specs.Mornings.{EditsTold};
 use ask::border;
 use ask::count_of_type;
 use ask::first_anchor;
@@ -23,11 +24,15 @@ use build::build;
 use build::build_edition;
 use c_answers::byte_of;
 use c_answers::tell_built;
+use c_answers::tell_edits;
 use c_answers::tell_found;
 use c_answers::tell_half;
 use c_answers::tell_truth;
 use c_answers::tell_value;
 use c_answers::tell_verdict;
+use edits::Tally;
+use edits::make_edits;
+use edits::tallied;
 use format::format;
 use format::format_edition;
 use listing::anchors;
@@ -107,6 +112,27 @@ pub extern "C" fn mk_remove(mesh: &mut [u32], cell: u32) -> u8
     ensures { λ r. ⌜ Changed (now (mesh .entry)) (Remove cell) r (now (mesh .exit)) ⌝ }
 {
     tell_verdict(remove(mesh, Cell(cell)))
+}
+
+// The edits of a list in turn: how many were made, and the tally's two words, accepted and refused.
+#[no_mangle]
+pub extern "C" fn mk_edits(
+    mesh: &mut [u32],
+    edits: &[u32],
+    tally: &mut [u32; 2],
+    made: &mut usize,
+) -> u8
+    ensures { λ r. ⌜ EditsTold (now (mesh .entry)) (now (edits .entry)) (now (tally .entry)) r (now (mesh .exit)) (now (tally .exit)) (now (made .exit)) ⌝ }
+{
+    let answer = make_edits(mesh, edits);
+    let before = Tally {
+        accepted: tally[0],
+        refused: tally[1],
+    };
+    let after = tallied(before, answer);
+    tally[0] = after.accepted;
+    tally[1] = after.refused;
+    tell_edits(answer, made)
 }
 
 // The type of a cell.
