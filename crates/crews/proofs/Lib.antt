@@ -2,4 +2,5 @@
 pub mod Kept
 pub mod Swapped
 pub mod Either
+pub mod Lists
 pub mod Tallies

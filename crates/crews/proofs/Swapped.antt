@@ -2,7 +2,7 @@
 use mathlib.Core.Path.{_≡_, refl, sym, ap, _∙_, fun-ext}
 use mathlib.Core.Bool.{Bool, true, false, cond}
 use Prim.Native.Nat.{ℕ}
-use borrow.Author.Tests.{eqb-true}
+use borrow.Author.Tests.{eqb-true, ne-eqb}
 use lib.Dec.{eqb}
 use Rattle.lists.proofs.Bools.{clash, not-true-false}
 use Rattle.map.specs.Cells.{Body, Map, noCell}
@@ -41,7 +41,16 @@ unfolding changed
 changed-put m (Insert c x) = refl
 changed-put m (Remove c) = refl
 
--- so are edits made
+-- under another number an edit leaves what stands there
+pub edited-other : (m : Map) (e : Edit) (k : ℕ) → (cellOf e ≡ k → ⊥) → edited m e .at k ≡ m .at k
+unfolding edited put
+edited-other m e k n = go (eqb (editAnswer m e .refusal) 0)
+  where
+    go : (t : Bool) → cond t (changed m e) m .at k ≡ m .at k
+    go true = ap (λ (n : Map). n .at k) (changed-put m e) ∙ rw (ne-eqb (cellOf e) k n)
+    go false = refl
+
+-- edits made are made in either order
 changed-swap : (m : Map) (a b : Edit) → (cellOf a ≡ cellOf b → ⊥) → changed (changed m a) b ≡ changed (changed m b) a
 changed-swap m a b n =
     changed-put (changed m a) b
