@@ -1,7 +1,7 @@
 //! Two crews: pairs of edits on different cell numbers whose cells share no mark,
-//! made in both orders by calls of their own and as lists of one edit, beside the
-//! second program. Each gets the same answer, the memory left is equal word for
-//! word, and so is the tally.
+//! made in both orders by calls of their own and as lists of one edit, and whole
+//! lists of such edits, beside the second program. Each gets the same answer, the
+//! memory left is equal word for word, and so is the tally.
 
 mod common;
 
@@ -72,13 +72,13 @@ impl Edit {
         };
         theirs(answer, |()| vec![]).0
     }
+}
 
-    /// The number made and the refusal's, of a list of this edit alone.
-    fn listed(&self, words: &mut [u32], tally: &mut Tally) -> (usize, u8) {
-        match Mesh::over(words).edits(&Edits::from(self.words()), tally) {
-            Ok(made) => (made, 0),
-            Err(EditsStopped { refusal, made }) => (made, refusal.number()),
-        }
+/// The number made and the refusal's, of a list of edits in the library.
+fn listed(list: &[u32], words: &mut [u32], tally: &mut Tally) -> (usize, u8) {
+    match Mesh::over(words).edits(&Edits::from(list.to_vec()), tally) {
+        Ok(made) => (made, 0),
+        Err(EditsStopped { refusal, made }) => (made, refusal.number()),
     }
 }
 
@@ -143,42 +143,38 @@ impl Both {
         here.agree(chance, questions);
         if a.listable() && b.listable() {
             for count in [0, u32::MAX - 1, u32::MAX] {
-                self.either_list(a, b, count, &here.words);
+                let words = self.either_list(&a.words(), &b.words(), count);
+                assert!(words == here.words, "the words differ: {a:?} {b:?}");
             }
         }
         answers
     }
 
-    /// Two lists of one edit each, in both orders, with a tally that begins at this
-    /// count: answers, words and tally are equal, and the second program's.
-    fn either_list(&self, a: &Edit, b: &Edit, count: u32, due: &[u32]) {
-        let start = Tally {
-            accepted: count,
-            refused: count,
-        };
-        let ends = [[a, b], [b, a]].map(|order| {
-            let (mut words, mut tally) = (self.words.clone(), start);
-            let said = order.map(|edit| edit.listed(&mut words, &mut tally));
-            assert!(words == due, "the words differ: {a:?} {b:?}");
-            let (accepted, refused) = (start.accepted, start.refused);
+    /// Two lists in both orders, with a tally that begins at this count: answers,
+    /// words and tally are equal, and the second program's. The words left.
+    fn either_list(&self, a: &[u32], b: &[u32], count: u32) -> Vec<u32> {
+        let [here, there] = [[a, b], [b, a]].map(|order| {
+            let (mut words, mut memory) = (self.words.clone(), self.memory.clone());
+            let (accepted, refused) = (count, count);
+            let mut tally = Tally { accepted, refused };
             let mut counts = second::Tally { accepted, refused };
-            let mut memory = self.memory.clone();
-            for (edit, said) in order.iter().zip(said) {
-                let answer = match memory.edits(&edit.words(), &mut counts) {
+            let said = order.map(|list| {
+                let said = listed(list, &mut words, &mut tally);
+                let answer = match memory.edits(list, &mut counts) {
                     Ok(made) => (made, 0),
                     Err((refusal, made)) => (made, refusal.number()),
                 };
-                assert_eq!(answer, said, "{edit:?}");
-            }
-            assert_eq!(
-                (counts.accepted, counts.refused),
-                (tally.accepted, tally.refused)
-            );
-            (said, tally)
+                assert_eq!(answer, said, "{list:?}");
+                said
+            });
+            let theirs = (counts.accepted, counts.refused);
+            assert_eq!(theirs, (tally.accepted, tally.refused));
+            (said, tally, words)
         });
-        let [(said, tally), (other, other_tally)] = ends;
-        assert_eq!(said, [other[1], other[0]]);
-        assert_eq!(tally, other_tally);
+        assert_eq!(here.0, [there.0[1], there.0[0]], "{a:?} {b:?}");
+        assert_eq!(here.1, there.1, "{a:?} {b:?}");
+        assert!(here.2 == there.2, "the words differ: {a:?} {b:?}");
+        here.2
     }
 }
 
@@ -344,6 +340,90 @@ fn pairs_by_chance() {
         assert!(count > 20, "{number}: {count} of {pairs}");
     }
     assert!(seen[&[0, 0]] > 200, "{seen:?}");
+}
+
+/// An edit at a crew's end: under numbers of its own parity, with marks of its own
+/// half, and marks of its own above the capacity. Its words say how long it is.
+fn draw_at(chance: &mut Chance, crew: u32, half: u32, cells: u32) -> Edit {
+    loop {
+        match draw(chance, half, cells) {
+            Remove(cell) => return Remove(2 * cell + crew),
+            Insert(cell, code, mut drawn) => {
+                let count = type_with_code(code).map_or(0, |row| row.marks);
+                if count == drawn.len() {
+                    for mark in &mut drawn {
+                        *mark += if *mark < half {
+                            half * crew
+                        } else {
+                            half + crew
+                        };
+                    }
+                    return Insert(2 * cell + crew, code, drawn);
+                }
+            }
+        }
+    }
+}
+
+/// A crew's list of edits: in every other one all are accepted.
+fn list_at(chance: &mut Chance, before: &Memory, crew: u32, half: u32, cells: u32) -> Vec<Edit> {
+    let mut memory = before.clone();
+    let (length, good) = (1 + chance.below(8), chance.one_in(2));
+    let mut list = Vec::new();
+    while list.len() < length as usize {
+        let edit = draw_at(chance, crew, half, cells);
+        if edit.in_second(&mut memory) == 0 || !good {
+            list.push(edit);
+        }
+    }
+    list
+}
+
+/// The numbers and the marks of a list's cells, each edit at its turn.
+fn touched(memory: &Memory, list: &[Edit]) -> (Vec<u32>, Vec<u32>) {
+    let mut memory = memory.clone();
+    let (mut numbers, mut marks) = (Vec::new(), Vec::new());
+    for edit in list {
+        numbers.push(edit.cell());
+        marks.extend(edit.marks(&memory));
+        edit.in_second(&mut memory);
+    }
+    (numbers, marks)
+}
+
+/// A list of each crew, again and again on one map.
+#[test]
+fn lists_by_chance() {
+    let (half, cells) = (27, 40);
+    let (mut whole, mut stopped) = (0, 0);
+    for seed in 50..70 {
+        let mut chance = Chance::from_seed(seed);
+        let edition = 1 + chance.below(2);
+        let mut before = Both::formatted(2 * half, 2 * cells, edition);
+        for _ in 0..60 {
+            let lists = [0, 1].map(|crew| list_at(&mut chance, &before.memory, crew, half, cells));
+            let [a, b] = [0, 1].map(|crew| touched(&before.memory, &lists[crew]));
+            assert!(!a.0.iter().any(|number| b.0.contains(number)));
+            assert!(!a.1.iter().any(|mark| b.1.contains(mark)));
+            let words = lists.map(|list| list.iter().flat_map(Edit::words).collect::<Vec<u32>>());
+            let count = [0, u32::MAX - 3][chance.below(2) as usize];
+            let left = before.either_list(&words[0], &words[1], count);
+            for list in &words {
+                let mut tally = Tally::default();
+                let (_, number) = listed(list, &mut before.words, &mut tally);
+                let mut counts = second::Tally::default();
+                assert_eq!(before.memory.edits(list, &mut counts).is_ok(), number == 0);
+                *if number == 0 {
+                    &mut whole
+                } else {
+                    &mut stopped
+                } += 1;
+            }
+            assert!(before.words == left);
+        }
+        before.agree(&mut chance, 40);
+    }
+    assert!(whole > 1_000 && stopped > 500, "{whole} {stopped}");
 }
 
 /// Where the two share a mark or a number the orders may differ, so the runs
