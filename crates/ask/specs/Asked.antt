@@ -9,10 +9,11 @@ use Rattle.words.specs.Words.{BeginsAt}
 use Rattle.store.specs.Slots.{marksAt}
 use Rattle.store.specs.Open.{isMesh}
 use Rattle.map.specs.Cells.{Map}
-use Rattle.map.specs.Answers.{Answer, typeAnswer, marksPart}
+use Rattle.map.specs.Answers.{typeAnswer, marksPart}
 use Rattle.picture.specs.Picture.{Wf}
 
-pub record Asked {A : Type 0} (says : A → Answer) (noMesh : A) (w : List ℕ) (answer : Map → Answer) (r : A) : Type 0 where
+-- what an answer says is compared: numbers for most, points and measures for some
+pub record Asked {A B : Type 0} (says : A → B) (noMesh : A) (w : List ℕ) (answer : Map → B) (r : A) : Type 0 where
   pub refused : isMesh w ≡ false → r ≡ noMesh
   pub answers : (m : Map) → Wf w m → says r ≡ answer m
 

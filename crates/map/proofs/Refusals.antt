@@ -5,10 +5,10 @@ use Prim.Native.Nat.{ℕ, suc, _%_, _<_, _≤_}
 use native.Mathlib.Omega.{arith}
 use lib.ListN.{getD, length}
 use Rattle.map.specs.declared.Refusal.{Refusal}
-use Rattle.map.specs.declared.Refusal.the-variants.{CapacityAbove, MemoryShort, CellOutside, CellLive, CellNotLive, TypeUnknown, CountWrong, MarkOutside, MarkTwice, CellSame, MarkFull, OutputShort, FacetOutside, NotMesh, BadFrame, FaceFull}
+use Rattle.map.specs.declared.Refusal.the-variants.{CapacityAbove, MemoryShort, CellOutside, CellLive, CellNotLive, TypeUnknown, CountWrong, MarkOutside, MarkTwice, CellSame, MarkFull, OutputShort, FacetOutside, NotMesh, BadFrame, PositionsShort, FaceFull}
 use Rattle.map.specs.Says.{numberOf}
 
--- in the order of their numbers, from 1 on; at 16 to 18, which none has, stands the 15
+-- in the order of their numbers, from 1 on; at 17 and 18, which none has, stands the 15
 pub refusals : List Refusal
 refusals =
     CapacityAbove
@@ -26,7 +26,7 @@ refusals =
     ∷ FacetOutside
     ∷ NotMesh
     ∷ BadFrame
-    ∷ BadFrame
+    ∷ PositionsShort
     ∷ BadFrame
     ∷ BadFrame
     ∷ FaceFull
@@ -56,6 +56,7 @@ row OutputShort = record { place = 11; here = refl; number = refl; byte = omega 
 row FacetOutside = record { place = 12; here = refl; number = refl; byte = omega arith }
 row NotMesh = record { place = 13; here = refl; number = refl; byte = omega arith }
 row BadFrame = record { place = 14; here = refl; number = refl; byte = omega arith }
+row PositionsShort = record { place = 15; here = refl; number = refl; byte = omega arith }
 row FaceFull = record { place = 18; here = refl; number = refl; byte = omega arith }
 
 -- the refusal of a number

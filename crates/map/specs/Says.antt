@@ -2,7 +2,7 @@
 use mathlib.Core.List.{List, [], _∷_}
 use Prim.Native.Nat.{ℕ}
 use Rattle.map.specs.declared.Refusal.{Refusal}
-use Rattle.map.specs.declared.Refusal.the-variants.{CapacityAbove, MemoryShort, CellOutside, CellLive, CellNotLive, TypeUnknown, CountWrong, MarkOutside, MarkTwice, CellSame, MarkFull, OutputShort, FacetOutside, NotMesh, BadFrame, FaceFull}
+use Rattle.map.specs.declared.Refusal.the-variants.{CapacityAbove, MemoryShort, CellOutside, CellLive, CellNotLive, TypeUnknown, CountWrong, MarkOutside, MarkTwice, CellSame, MarkFull, OutputShort, FacetOutside, NotMesh, BadFrame, PositionsShort, FaceFull}
 use Rattle.map.specs.declared.Verdict.{Verdict}
 use Rattle.map.specs.declared.Verdict.the-variants as Verdict′
 use Rattle.map.specs.declared.Value.{Value}
@@ -36,6 +36,7 @@ numberOf OutputShort = 12
 numberOf FacetOutside = 13
 numberOf NotMesh = 14
 numberOf BadFrame = 15
+numberOf PositionsShort = 16
 numberOf FaceFull = 19
 
 unfoldable pub given : List ℕ → Answer

@@ -27,6 +27,7 @@ pub enum Refusal {
     FacetOutside,
     NotMesh,
     BadFrame,
+    PositionsShort,
     FaceFull,
 }
 
@@ -50,6 +51,7 @@ pub fn number_of(r: Refusal) -> u32
         Refusal::FacetOutside => 13,
         Refusal::NotMesh => 14,
         Refusal::BadFrame => 15,
+        Refusal::PositionsShort => 16,
         Refusal::FaceFull => 19,
     }
 }

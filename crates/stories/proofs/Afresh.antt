@@ -31,7 +31,7 @@ use Rattle.numbers.specs.Editions.{isEdition}
 
 -- Two well-formed memories of one map answer every query alike. So, where they are one memory, nothing else fits the promise of a query.
 module _ {a b : List ℕ} {m : Map} (x : Wf a m) (y : Wf b m) where
-  pub asked-alike : {A : Type 0} {says : A → Answer} {noMesh : A} {answer : Map → Answer} {r r′ : A}
+  pub asked-alike : {A B : Type 0} {says : A → B} {noMesh : A} {answer : Map → B} {r r′ : A}
       → Asked says noMesh a answer r → Asked says noMesh b answer r′ → says r ≡ says r′
   asked-alike p q = p .answers m x ∙ sym (q .answers m y)
 
@@ -81,7 +81,7 @@ module _ {w : List ℕ} {m : Map} (s : Story w m) (other : List Live) (order : S
   afresh-words = wf-one b′ w m afresh-wf (story-wf s)
 
   -- and every query answers on both alike
-  pub afresh-asked : {A : Type 0} {says : A → Answer} {noMesh : A} {answer : Map → Answer} {x y : A}
+  pub afresh-asked : {A B : Type 0} {says : A → B} {noMesh : A} {answer : Map → B} {x y : A}
       → Asked says noMesh w answer x → Asked says noMesh b′ answer y → says x ≡ says y
   afresh-asked = asked-alike (story-wf s) afresh-wf
 

@@ -6,7 +6,7 @@ use mathlib.Core.List.{List}
 use Prim.Native.Nat.{ℕ, min}
 use lib.ListN.{length}
 use Rattle.map.specs.Cells.{Map}
-use Rattle.map.specs.Answers.{Check, Answer, listAnswer}
+use Rattle.map.specs.Answers.{Check, listAnswer}
 use Rattle.map.specs.Says.{valueSays}
 use Rattle.map.specs.declared.Value.{Value}
 use Rattle.picture.specs.Picture.{Wf}
@@ -27,7 +27,7 @@ story-wf (refusedBuild s b short) = rw (b .kept short) (story-wf s)
 
 module _ {w : List ℕ} {m : Map} (s : Story w m) where
   -- a query answers as the definition does over those cells
-  pub story-asked : {A : Type 0} {says : A → Answer} {noMesh : A} {answer : Map → Answer} {r : A}
+  pub story-asked : {A B : Type 0} {says : A → B} {noMesh : A} {answer : Map → B} {r : A}
       → Asked says noMesh w answer r → says r ≡ answer m
   story-asked q = q .answers m (story-wf s)
 
