@@ -1,0 +1,4 @@
+pub mod Measures
+pub mod Rows
+pub mod Replies
+pub mod Pointed
