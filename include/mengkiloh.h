@@ -9,10 +9,11 @@
  * (enum mk_refusal). Values come through pointers, and only where the call is accepted: a refused
  * call leaves everything that was lent as it was. The exceptions are builds and mk_edits.
  *
- * A list is a pointer and a count of 32-bit words. A list's pointer and the pointer of a single
- * number are aligned to 4 bytes and not null; that of an empty list may be anything. What a call
- * writes must not overlap anything else that is lent to the same call. Places that a call only
- * reads (those marked const) may overlap each other.
+ * A list is a pointer and a count of 32-bit words, of positions one of 16-bit numbers, of points one
+ * of 64-bit floats. A list's pointer and the pointer of a single number are aligned to the size of
+ * what they point to and not null; that of an empty list may be anything. What a call writes must
+ * not overlap anything else that is lent to the same call. Places that a call only reads (those
+ * marked const) may overlap each other.
  *
  * Any memory may be lent as a mesh. On words that are no well-formed mesh a call is safe and
  * returns, and writes within the room alone; what it answers is promised only for
@@ -34,23 +35,24 @@ extern "C" {
 /* Why a call is refused. Checks run in the order that each call lists. */
 enum mk_refusal {
     MK_ACCEPTED = 0,
-    MK_CAPACITY_ABOVE = 1, /* a capacity is above 65,535 */
-    MK_MEMORY_SHORT = 2,   /* at format or build, memory is shorter than the room */
-    MK_CELL_OUTSIDE = 3,   /* a cell number is not below the capacity */
-    MK_CELL_LIVE = 4,      /* insert: the number is live */
-    MK_CELL_NOT_LIVE = 5,  /* the cell is not live */
-    MK_TYPE_UNKNOWN = 6,   /* type code not in the table, dimension not 1 to 3, edition not 1 or 2, or kind
-                              of a listed edit not 1 or 2 */
-    MK_COUNT_WRONG = 7,    /* wrong count of marks for the type or the lookup, or a build record or a listed
-                              edit cut short */
-    MK_MARK_OUTSIDE = 8,   /* a mark is not below the capacity */
-    MK_MARK_TWICE = 9,     /* a mark occurs twice */
-    MK_CELL_SAME = 10,     /* a live cell of that type has the same set of marks */
-    MK_MARK_FULL = 11,     /* one of the marks stands in 128 live cells already */
-    MK_OUTPUT_SHORT = 12,  /* output buffer shorter than the list */
-    MK_FACET_OUTSIDE = 13, /* local facet not below the type's count */
-    MK_NOT_MESH = 14,      /* memory is not a mesh */
-    MK_FACE_FULL = 19      /* insert under edition 2: a third solid on a face */
+    MK_CAPACITY_ABOVE = 1,  /* a capacity is above 65,535 */
+    MK_MEMORY_SHORT = 2,    /* at format or build, memory is shorter than the room */
+    MK_CELL_OUTSIDE = 3,    /* a cell number is not below the capacity */
+    MK_CELL_LIVE = 4,       /* insert: the number is live */
+    MK_CELL_NOT_LIVE = 5,   /* the cell is not live */
+    MK_TYPE_UNKNOWN = 6,    /* type code not in the table, dimension not 1 to 3, edition not 1 or 2, kind of
+                               a listed edit not 1 or 2, or a solid without a measure */
+    MK_COUNT_WRONG = 7,     /* wrong count of marks for the type or the lookup, or a build record or a
+                               listed edit cut short */
+    MK_MARK_OUTSIDE = 8,    /* a mark is not below the capacity */
+    MK_MARK_TWICE = 9,      /* a mark occurs twice */
+    MK_CELL_SAME = 10,      /* a live cell of that type has the same set of marks */
+    MK_MARK_FULL = 11,      /* one of the marks stands in 128 live cells already */
+    MK_OUTPUT_SHORT = 12,   /* output buffer shorter than the list */
+    MK_FACET_OUTSIDE = 13,  /* local facet not below the type's count */
+    MK_NOT_MESH = 14,       /* memory is not a mesh */
+    MK_POSITIONS_SHORT = 16, /* position list shorter than three numbers per mark */
+    MK_FACE_FULL = 19       /* insert under edition 2: a third solid on a face */
 };
 
 /* The editions of the sheet rules. Under the second a face lies between two solids at most. */
@@ -236,6 +238,39 @@ uint8_t mk_cells(const uint32_t *mesh, size_t words, uint32_t type, uint32_t *ou
  * words that are no well-formed mesh may be any number: room for mk_cells is sized by the capacity.
  */
 uint8_t mk_count(const uint32_t *mesh, size_t words, uint32_t type, uint32_t *count);
+
+/*
+ * Positions are lent beside the mesh: three whole metres a mark, x, y and z, each a signed 16-bit number,
+ * for every mark of the capacity. The three calls below only read the mesh and the positions.
+ *
+ * Points: the corners of a cell in their order, three floats each, x, y and z; corners is the count of
+ * points. room is the count of floats that out has. Refused with 14, 3, 5, 16, 12.
+ */
+uint8_t mk_points(const uint32_t *mesh, size_t words, const int16_t *positions, size_t numbers,
+                  uint32_t cell, double *out, size_t room, uint32_t *corners);
+
+/*
+ * Centre: each coordinate's sum over the corners, held exactly, then divided once by their count. Refused
+ * with 14, 3, 5, 16.
+ */
+uint8_t mk_centre(const uint32_t *mesh, size_t words, const int16_t *positions, size_t numbers,
+                  uint32_t cell, double *x, double *y, double *z);
+
+/* The kinds of measures. */
+enum mk_measure_kind {
+    MK_SQUARED_LENGTH = 1, /* of a bar */
+    MK_DOUBLED_AREA = 2,   /* signed, in the plan (x and y): of a triangle edges 0 to 1 and 0 to 2
+                              crossed, of a quad 0 to 2 and 1 to 3 */
+    MK_SIXFOLD_VOLUME = 3  /* signed, of a tetrahedron: edge 0 to 1 dotted with the cross product of
+                              those to 2 and to 3 */
+};
+
+/*
+ * Measure: its kind, which follows the cell's type, and the float equal to the whole-number formula,
+ * without rounding; zero is positive zero. Refused with 14, 3, 5, 6 for a pyramid, a wedge or a brick, 16.
+ */
+uint8_t mk_measure(const uint32_t *mesh, size_t words, const int16_t *positions, size_t numbers,
+                   uint32_t cell, uint32_t *kind, double *measure);
 
 /*
  * Whole check: 1 if the words are a well-formed mesh, else 0. It never refuses, also under 16 words.

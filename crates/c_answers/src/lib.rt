@@ -1,11 +1,14 @@
 // Each kind of answer as a number and lent words: 0 with the value in its place, or the refusal's number.
 //
-// What is here: a function for each answer enum of crates/map. What is proved: the number is the answer's refusal, and the lent word is
-// the answer's value, or as it was where the answer has none (specs/Told.antt). What a caller should know: a refused build has a value,
-// the place of its record, and a list of edits has one always, the number made; every other answer has one only where it is accepted.
+// What is here: a function for each answer enum of crates/map and crates/positions. What is proved: the number is the answer's refusal, and the
+// lent word or float is the answer's value, or as it was where the answer has none (specs/Told.antt, specs/Floats.antt). What a caller should
+// know: a refused build has a value, the place of its record, and a list of edits has one always, the number made; every other answer has one
+// only where it is accepted.
 ghost use mathlib.Core.Path.{_≡_};
 ghost use Rattle.map.specs.Says.{numberOf, verdictSays, valueSays, halfSays, truthSays, builtSays, foundSays, editsSays};
+ghost use Rattle.positions.specs.Replies.{measureSays, centreSays};
 ghost use Rattle.c_answers.specs.Told.{Told, ToldTwo, ToldFound};
+ghost use Rattle.c_answers.specs.Floats.{ToldMeasure, ToldPoint};
 use map::Built;
 use map::Edits;
 use map::Found;
@@ -16,6 +19,8 @@ use map::Value;
 use map::Verdict;
 use map::number_of;
 use map::way_number;
+use positions::Centred;
+use positions::Measured;
 
 // The number of a refusal in a byte.
 pub fn byte_of(why: Refusal) -> u8
@@ -121,6 +126,45 @@ pub fn tell_edits(e: Edits, made: &mut usize) -> u8
         Edits::Stopped(first, why) => {
             *made = first;
             byte_of(why)
+        }
+    }
+}
+
+// A measure: the number of its kind beside its float.
+pub fn tell_measure(m: Measured, kind: &mut u32, x: &mut f64) -> u8
+    ensures { λ r. ⌜ ToldMeasure (measureSays m) (now (kind .entry)) (now (x .entry)) r (now (kind .exit)) (now (x .exit)) ⌝ }
+{
+    match m {
+        Measured::Refused(why) => byte_of(why),
+        Measured::SquaredLength(size) => {
+            *kind = 1;
+            *x = size;
+            0
+        }
+        Measured::DoubledArea(size) => {
+            *kind = 2;
+            *x = size;
+            0
+        }
+        Measured::SixfoldVolume(size) => {
+            *kind = 3;
+            *x = size;
+            0
+        }
+    }
+}
+
+// A centre: the three floats of its point.
+pub fn tell_centre(c: Centred, x: &mut f64, y: &mut f64, z: &mut f64) -> u8
+    ensures { λ r. ⌜ ToldPoint (centreSays c) (now (x .entry)) (now (y .entry)) (now (z .entry)) r (now (x .exit)) (now (y .exit)) (now (z .exit)) ⌝ }
+{
+    match c {
+        Centred::Refused(why) => byte_of(why),
+        Centred::At(point) => {
+            *x = point.x;
+            *y = point.y;
+            *z = point.z;
+            0
         }
     }
 }

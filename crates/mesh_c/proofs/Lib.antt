@@ -4,3 +4,4 @@ pub mod Queries
 pub mod Places
 pub mod Edits
 pub mod Mornings
+pub mod Placed

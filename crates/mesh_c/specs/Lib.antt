@@ -1,3 +1,4 @@
 pub mod Answered
 pub mod Changed
 pub mod Mornings
+pub mod Placed

@@ -2,8 +2,9 @@
 //
 // What is here: a function for each public call, under its plain name, none with a `requires`. Each answers the refusal's number, 0 for
 // accepted, and gives its values through lent words. What is proved: the promise of the call it stands for, told by numbers; a refusal
-// leaves what was lent as it was, on any memory (specs/Answered.antt, specs/Changed.antt). What a caller should know: a list is a pointer
-// and a count of 32-bit words, aligned to 4 bytes; what a call writes may not overlap anything else that is lent to it.
+// leaves what was lent as it was, on any memory (specs/Answered.antt, specs/Changed.antt, specs/Placed.antt). What a caller should know: a list
+// is a pointer and a count of 32-bit words (of positions 16-bit numbers, of points 64-bit floats), aligned to their size; what a call writes may
+// not overlap anything else that is lent to it.
 ghost use Rattle.numbers.specs.Half.{halfOf};
 ghost use Rattle.numbers.specs.Sizes.{capsUnder, capacities};
 ghost use Rattle.map.specs.Answers.{cellChecks, halfChecks, starChecks, typeChecks, typeAnswer, siblingAnswer, borderAnswer, firstAnchorAnswer, lookupAnswer, countAnswer, editionAnswer};
@@ -12,9 +13,11 @@ ghost use Rattle.map.specs.Siblings.{cycle};
 ghost use Rattle.map.specs.Ways.{cycleWays};
 ghost use Rattle.map.specs.Stars.{star, anchors};
 ghost use Rattle.map.specs.History.{Insert, Remove};
+ghost use Rattle.positions.specs.Replies.{measureReply, centreReply};
 ghost use Rattle.mesh_c.specs.Answered.{Answered, Faced, Sought, Listed, ListedTwo, MarksTold, Judged};
 ghost use Rattle.mesh_c.specs.Changed.{Emptied, Raised, Changed};
 ghost use Rattle.mesh_c.specs.Mornings.{EditsTold};
+ghost use Rattle.mesh_c.specs.Placed.{Sized, Centre, Corners};
 use ask::border;
 use ask::count_of_type;
 use ask::first_anchor;
@@ -24,9 +27,11 @@ use build::build;
 use build::build_edition;
 use c_answers::byte_of;
 use c_answers::tell_built;
+use c_answers::tell_centre;
 use c_answers::tell_edits;
 use c_answers::tell_found;
 use c_answers::tell_half;
+use c_answers::tell_measure;
 use c_answers::tell_truth;
 use c_answers::tell_value;
 use c_answers::tell_verdict;
@@ -47,6 +52,9 @@ use mesh::insert;
 use mesh::remove;
 use numbers::Cell;
 use numbers::Mark;
+use positions::centre;
+use positions::measure;
+use positions::points;
 use shapes::mark_count;
 use store::Opened;
 use store::marks_place;
@@ -286,6 +294,49 @@ pub extern "C" fn mk_edition(mesh: &[u32], edition: &mut u32) -> u8
     ensures { λ r. ⌜ Answered (now (mesh .entry)) editionAnswer (now (edition .entry)) r (now (edition .exit)) ⌝ }
 {
     tell_value(ask::edition(mesh), edition)
+}
+
+// The corners of a cell as points, three floats each.
+#[no_mangle]
+pub extern "C" fn mk_points(
+    mesh: &[u32],
+    positions: &[i16],
+    cell: u32,
+    out: &mut [f64],
+    corners: &mut u32,
+) -> u8
+    ensures { λ r. ⌜ Corners (now (mesh .entry)) (now (positions .entry)) cell (now (out .entry)) (now (corners .entry)) r (now (out .exit)) (now (corners .exit)) ⌝ }
+{
+    tell_value(points(mesh, positions, Cell(cell), out), corners)
+}
+
+// The centre of a cell.
+#[no_mangle]
+pub extern "C" fn mk_centre(
+    mesh: &[u32],
+    positions: &[i16],
+    cell: u32,
+    x: &mut f64,
+    y: &mut f64,
+    z: &mut f64,
+) -> u8
+    ensures { λ r. ⌜ Centre (now (mesh .entry)) (λ m. centreReply m (now (positions .entry)) cell) (now (x .entry)) (now (y .entry)) (now (z .entry)) r (now (x .exit)) (now (y .exit)) (now (z .exit)) ⌝ }
+{
+    tell_centre(centre(mesh, positions, Cell(cell)), x, y, z)
+}
+
+// The measure of a cell, and its kind.
+#[no_mangle]
+pub extern "C" fn mk_measure(
+    mesh: &[u32],
+    positions: &[i16],
+    cell: u32,
+    kind: &mut u32,
+    size: &mut f64,
+) -> u8
+    ensures { λ r. ⌜ Sized (now (mesh .entry)) (λ m. measureReply m (now (positions .entry)) cell) (now (kind .entry)) (now (size .entry)) r (now (kind .exit)) (now (size .exit)) ⌝ }
+{
+    tell_measure(measure(mesh, positions, Cell(cell)), kind, size)
 }
 
 // The whole check: 1 for yes, 0 for no.
