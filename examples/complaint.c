@@ -1,5 +1,5 @@
 /* A complaint, start to end, from C: a viaduct over a hillside, the cells around a mark, one removed, the cells again;
- * a morning's edits in one call; and solids under the second edition.
+ * their measures; a morning's edits in one call; and solids under the second edition.
  *
  *     cc -Iinclude examples/complaint.c libmesh_c.a -o complaint
  */
@@ -49,6 +49,19 @@ static void tell(uint32_t mark)
     for (uint32_t i = 0; i < count; i++) {
         printf("cell %" PRIu32 ", facet %" PRIu32 ": the next runs %s\n", list[i] / 8, list[i] % 8, runs[ways[i]]);
     }
+}
+
+/* three whole metres a mark */
+static const int16_t positions[3 * MARKS] = {0,   0,  0, 40, 0,  2, 0,  30, 4, 40, 30, 5, -20, 30,
+                                             6, -20, 60, 8,  0, 90, 9, 40, 90, 9,  0,  30, 50};
+
+static void survey(uint32_t cell)
+{
+    uint32_t kind = 0;
+    double measure = 0, x = 0, y = 0, z = 0;
+    must(mk_measure(words, MK_ROOM(MARKS, CELLS), positions, 3 * MARKS, cell, &kind, &measure));
+    must(mk_centre(words, MK_ROOM(MARKS, CELLS), positions, 3 * MARKS, cell, &x, &y, &z));
+    printf("cell %" PRIu32 ": kind %" PRIu32 ", measure %.0f, centre %.2f %.2f %.2f\n", cell, kind, measure, x, y, z);
 }
 
 /* a morning's edits; the third is refused, and the fourth not made */
@@ -105,6 +118,9 @@ int main(void)
     } else {
         printf("cell 5 is refused with %d\n", refusal);
     }
+    survey(0);
+    survey(3);
+    survey(4);
     morning();
     harbour();
     return 0;

@@ -1,7 +1,7 @@
 #!/usr/bin/env python3
 """A complaint, start to end, from Python: a viaduct over a hillside, the cells
-around a mark, one removed, the cells again; a morning's edits in one call; and
-solids under the second edition.
+around a mark, one removed, the cells again; their measures; a morning's edits in
+one call; and solids under the second edition.
 
 usage: complaint.py LIBRARY
 LIBRARY is the proved library as a shared library, as README.md makes it.
@@ -14,6 +14,11 @@ FIRST_EDITION, SECOND_EDITION = 1, 2
 INSERT, REMOVE = 1, 2
 WAYS = ("Lone", "Same", "Opposite", "Neither")
 LONGEST_LIST = 128
+# three whole metres a mark
+POSITIONS = [
+    *(0, 0, 0, 40, 0, 2, 0, 30, 4, 40, 30, 5, -20, 30, 6),
+    *(-20, 60, 8, 0, 90, 9, 40, 90, 9, 0, 30, 50),
+]
 
 
 class Refused(Exception):
@@ -86,6 +91,25 @@ class Map:
         halves = [(half // 8, half % 8) for half in out[: count.value]]
         return list(zip(halves, (WAYS[way] for way in ways)))
 
+    def measure(self, positions, cell):
+        kind, size = ctypes.c_uint32(), ctypes.c_double()
+        self._placed("mk_measure", positions, cell, ctypes.byref(kind), ctypes.byref(size))
+        return kind.value, size.value
+
+    def centre(self, positions, cell):
+        point = [ctypes.c_double() for _ in range(3)]
+        self._placed("mk_centre", positions, cell, *map(ctypes.byref, point))
+        return tuple(axis.value for axis in point)
+
+    def points(self, positions, cell):
+        out, corners = (ctypes.c_double * 24)(), ctypes.c_uint32()
+        self._placed("mk_points", positions, cell, out, ctypes.c_size_t(24), ctypes.byref(corners))
+        return [tuple(out[3 * k : 3 * k + 3]) for k in range(corners.value)]
+
+    def _placed(self, name, positions, cell, *rest):
+        list_ = (ctypes.c_int16 * len(positions))(*positions)
+        self._call(name, list_, ctypes.c_size_t(len(positions)), ctypes.c_uint32(cell), *rest)
+
     def _list(self, name, *numbers):
         out = (ctypes.c_uint32 * LONGEST_LIST)()
         count = ctypes.c_uint32()
@@ -132,6 +156,13 @@ def main():
         print("cell 5 stands")
     except Refused as refused:
         print(f"cell 5 is {refused}")
+
+    for cell in (0, 3, 4):
+        kind, size = map_.measure(POSITIONS, cell)
+        x, y, z = map_.centre(POSITIONS, cell)
+        corners = map_.points(POSITIONS, cell)
+        assert x == sum(corner[0] for corner in corners) / len(corners)
+        print(f"cell {cell}: kind {kind}, measure {size:.0f}, centre {x:.2f} {y:.2f} {z:.2f}")
 
     # a morning's edits; the third is refused, and the fourth not made
     tally = [0, 0]

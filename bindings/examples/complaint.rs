@@ -1,10 +1,16 @@
 //! A complaint, start to end: a viaduct over a hillside, the cells around a
-//! mark, one removed, the cells again; a morning's edits in one call; and solids
-//! under the second edition.
+//! mark, one removed, the cells again; their measures; a morning's edits in one
+//! call; and solids under the second edition.
 //!
 //! `cargo run --example complaint`
 
-use mengkiloh::{Cell, Edition, Edits, Mark, Mesh, Refusal, Tally, Type};
+use mengkiloh::{Cell, Edition, Edits, Mark, Measure, Mesh, Refusal, Tally, Type};
+
+/// Three whole metres a mark.
+#[rustfmt::skip]
+const POSITIONS: [i16; 27] = [
+    0, 0, 0, 40, 0, 2, 0, 30, 4, 40, 30, 5, -20, 30, 6, -20, 60, 8, 0, 90, 9, 40, 90, 9, 0, 30, 50,
+];
 
 fn main() -> Result<(), Refusal> {
     // a hillside of two sheets that touch in mark 2, and over it a viaduct: a
@@ -24,6 +30,19 @@ fn main() -> Result<(), Refusal> {
     match map.insert(Cell(5), Type::Triangle, &[2, 0, 1].map(Mark)) {
         Ok(()) => println!("cell 5 stands"),
         Err(refusal) => println!("cell 5 is refused with {}", refusal.number()),
+    }
+
+    for cell in [0, 3, 4].map(Cell) {
+        let (kind, size) = match map.measure(&POSITIONS, cell)? {
+            Measure::SquaredLength(size) => (1, size),
+            Measure::DoubledArea(size) => (2, size),
+            Measure::SixfoldVolume(size) => (3, size),
+        };
+        let at = map.centre(&POSITIONS, cell)?;
+        println!(
+            "cell {cell}: kind {kind}, measure {size:.0}, centre {:.2} {:.2} {:.2}",
+            at.x, at.y, at.z
+        );
     }
 
     // a morning's edits; the third is refused, and the fourth not made

@@ -120,5 +120,34 @@ extern "C" {
         count: *mut u32,
     ) -> u8;
     pub fn mk_count(mesh: *const u32, words: usize, code: u32, count: *mut u32) -> u8;
+    pub fn mk_points(
+        mesh: *const u32,
+        words: usize,
+        positions: *const i16,
+        numbers: usize,
+        cell: u32,
+        out: *mut f64,
+        room: usize,
+        corners: *mut u32,
+    ) -> u8;
+    pub fn mk_centre(
+        mesh: *const u32,
+        words: usize,
+        positions: *const i16,
+        numbers: usize,
+        cell: u32,
+        x: *mut f64,
+        y: *mut f64,
+        z: *mut f64,
+    ) -> u8;
+    pub fn mk_measure(
+        mesh: *const u32,
+        words: usize,
+        positions: *const i16,
+        numbers: usize,
+        cell: u32,
+        kind: *mut u32,
+        measure: *mut f64,
+    ) -> u8;
     pub fn mk_whole(mesh: *const u32, words: usize) -> u8;
 }

@@ -63,6 +63,9 @@ const MOST_AROUND: usize = 128;
 /// A cell has at most so many neighbours: 127 across each of 6 facets.
 const MOST_NEIGHBOURS: usize = 6 * (MOST_AROUND - 1);
 
+/// No cell has more corners.
+const MOST_CORNERS: usize = 8;
+
 /// The words that a mesh of these capacities needs.
 pub const fn room(marks: u32, cells: u32) -> usize {
     16 + 8 * marks as usize + 32 * cells as usize
@@ -142,6 +145,41 @@ impl TryFrom<u32> for Edition {
             _ => Err(number),
         }
     }
+}
+
+/// A point of three floats.
+#[derive(Clone, Copy, Debug, Default, PartialEq)]
+pub struct Point {
+    pub x: f64,
+    pub y: f64,
+    pub z: f64,
+}
+
+/// A cell's measure, whose kind follows its type: the float equal to the
+/// whole-number formula, without rounding.
+///
+/// ```
+/// # use mengkiloh::{Cell, Mark, Measure, Mesh, Point, Refusal, Type};
+/// # fn main() -> Result<(), mengkiloh::Refusal> {
+/// let mut map = Mesh::with_room(4, 2)?;
+/// map.insert(Cell(0), Type::Triangle, &[0, 1, 2].map(Mark))?;
+/// let positions = [0, 0, 0, 4, 0, 0, 0, 3, 1, 9, 9, 9];
+/// assert_eq!(map.measure(&positions, Cell(0))?, Measure::DoubledArea(12.0));
+/// assert_eq!(map.points(&positions, Cell(0))?[1], Point { x: 4.0, y: 0.0, z: 0.0 });
+/// assert_eq!(map.centre(&positions, Cell(0))?.y, 1.0);
+/// let short = map.centre(&positions[..11], Cell(0));
+/// assert_eq!(short, Err(Refusal::PositionsShort));
+/// # Ok(())
+/// # }
+/// ```
+#[derive(Clone, Copy, Debug, PartialEq)]
+pub enum Measure {
+    /// Of a bar.
+    SquaredLength(f64),
+    /// Of a triangle or a quad: signed, in the plan.
+    DoubledArea(f64),
+    /// Of a tetrahedron: signed.
+    SixfoldVolume(f64),
 }
 
 /// A walker over one sibling cycle: its place.
@@ -452,6 +490,62 @@ impl<W: AsRef<[u32]>> Mesh<W> {
         let code = code.into();
         one_number(self.words(), |words, n, count| unsafe {
             calls::mk_count(words, n, code, count)
+        })
+    }
+
+    /// The corners of a cell as points. Positions are three whole metres for
+    /// each mark of the capacity.
+    pub fn points(&self, positions: &[i16], cell: Cell) -> Result<Vec<Point>, Refusal> {
+        let mut floats = [0.0; 3 * MOST_CORNERS];
+        let count = self.points_into(positions, cell, &mut floats)?;
+        let point = |at: &[f64]| Point {
+            x: at[0],
+            y: at[1],
+            z: at[2],
+        };
+        Ok(floats[..3 * count].chunks(3).map(point).collect())
+    }
+
+    /// The corners in the first places of `out`, three floats each; how many
+    /// corners they are.
+    pub fn points_into(
+        &self,
+        positions: &[i16],
+        cell: Cell,
+        out: &mut [f64],
+    ) -> Result<usize, Refusal> {
+        let (at, numbers) = (positions.as_ptr(), positions.len());
+        let (out, room) = (out.as_mut_ptr(), out.len());
+        one_number(self.words(), |words, n, corners| unsafe {
+            calls::mk_points(words, n, at, numbers, cell.0, out, room, corners)
+        })
+        .map(|corners| corners as usize)
+    }
+
+    /// The centre of a cell: each coordinate's exact sum, divided once by the
+    /// count of corners.
+    pub fn centre(&self, positions: &[i16], cell: Cell) -> Result<Point, Refusal> {
+        let (at, numbers) = (positions.as_ptr(), positions.len());
+        let words = self.words();
+        let mut point = Point::default();
+        let Point { x, y, z } = &mut point;
+        Refusal::from_number(unsafe {
+            calls::mk_centre(words.as_ptr(), words.len(), at, numbers, cell.0, x, y, z)
+        })?;
+        Ok(point)
+    }
+
+    /// The measure of a cell; a pyramid, a wedge and a brick have none.
+    pub fn measure(&self, positions: &[i16], cell: Cell) -> Result<Measure, Refusal> {
+        let (at, numbers) = (positions.as_ptr(), positions.len());
+        let mut size = 0.0;
+        let kind = one_number(self.words(), |words, n, kind| unsafe {
+            calls::mk_measure(words, n, at, numbers, cell.0, kind, &mut size)
+        })?;
+        Ok(match kind {
+            1 => Measure::SquaredLength(size),
+            2 => Measure::DoubledArea(size),
+            _ => Measure::SixfoldVolume(size),
         })
     }
 

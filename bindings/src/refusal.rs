@@ -21,12 +21,13 @@ pub enum Refusal {
     OutputShort = 12,
     FacetOutside = 13,
     NotMesh = 14,
+    PositionsShort = 16,
     FaceFull = 19,
 }
 
 impl Refusal {
     /// All of them, by number.
-    pub const ALL: [Refusal; 15] = [
+    pub const ALL: [Refusal; 16] = [
         Refusal::CapacityAbove,
         Refusal::MemoryShort,
         Refusal::CellOutside,
@@ -41,6 +42,7 @@ impl Refusal {
         Refusal::OutputShort,
         Refusal::FacetOutside,
         Refusal::NotMesh,
+        Refusal::PositionsShort,
         Refusal::FaceFull,
     ];
 
@@ -58,8 +60,8 @@ impl Refusal {
             Refusal::CellLive => "the cell number is live already",
             Refusal::CellNotLive => "the cell is not live",
             Refusal::TypeUnknown => {
-                "no such type, a dimension that is not 1 to 3, an edition that is not 1 or 2, \
-                 or a listed edit's kind that is not 1 or 2"
+                "no such type, a dimension that is not 1 to 3, an edition that is not 1 or 2, a \
+                 listed edit's kind that is not 1 or 2, or a solid without a measure"
             }
             Refusal::CountWrong => {
                 "wrong count of marks, or a build record or a listed edit cut short"
@@ -71,6 +73,9 @@ impl Refusal {
             Refusal::OutputShort => "the output is shorter than the list",
             Refusal::FacetOutside => "the cell has no such facet",
             Refusal::NotMesh => "the memory is not a mesh",
+            Refusal::PositionsShort => {
+                "the list of positions is shorter than three numbers for each mark"
+            }
             Refusal::FaceFull => "under edition 2, a third solid on a face",
         }
     }

@@ -2,6 +2,11 @@
 
 use second::{room, Memory, Refusal, Tally};
 
+#[rustfmt::skip]
+const POSITIONS: [i16; 27] = [
+    0, 0, 0, 40, 0, 2, 0, 30, 4, 40, 30, 5, -20, 30, 6, -20, 60, 8, 0, 90, 9, 40, 90, 9, 0, 30, 50,
+];
+
 fn main() -> Result<(), Refusal> {
     let mut map = Memory::lent(room(9, 8));
     map.format(9, 8)?;
@@ -19,6 +24,14 @@ fn main() -> Result<(), Refusal> {
     match map.insert(5, 2, &[2, 0, 1]) {
         Ok(()) => println!("cell 5 stands"),
         Err(refusal) => println!("cell 5 is refused with {}", refusal.number()),
+    }
+
+    for cell in [0, 3, 4] {
+        let measure = map.measure(&POSITIONS, cell)?;
+        let (kind, size) = (measure.kind(), measure.whole());
+        let (sums, count) = map.centre(&POSITIONS, cell)?;
+        let [x, y, z] = [sums.x, sums.y, sums.z].map(|sum| sum as f64 / count as f64);
+        println!("cell {cell}: kind {kind}, measure {size}, centre {x:.2} {y:.2} {z:.2}");
     }
 
     let morning = [2, 2, 1, 6, 1, 0, 8, 2, 2, 2, 0];

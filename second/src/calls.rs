@@ -5,12 +5,15 @@
 //! follows. Format: 1, 2. Insert: 3, 4, 6, 7, 8, 9, 10, 11. Remove: 3, 5.
 //! Queries: 3, 5, 13, 6, 7, 8, 9, 12, those that apply." Request 8 adds "6 for
 //! another edition, before 1 and like it; 19 for the third solid, after 10 and
-//! before 11". A list of edits, request 2's, has 14 first and then, at an edit's
-//! turn, 6 for its kind and 7 for a missing number or type. Numbers come in uncut, as whole 32-bit words. A half-facet is
+//! before 11", request 4 "after 3 and 5, 6 for a solid without a measure, then
+//! 16 for a position list shorter than three numbers per mark". A list of edits,
+//! request 2's, has 14 first and then, at an edit's turn, 6 for its kind and 7 for
+//! a missing number or type. Numbers come in uncut, as whole 32-bit words. A half-facet is
 //! answered as its number; with a sibling, a walker's step and each entry of a
 //! cycle comes which way its sibling runs (request 6).
 
 use crate::map::{self, Cell, HalfFacet, LiveCell, Mark, Way};
+use crate::positions::{self, Measure, Metres, NUMBERS_A_MARK};
 use crate::shapes::{type_with_code, Type, DIMENSIONS, HALF_FACETS_A_CELL, LOOKUP_MARKS, SOLID};
 use crate::Refusal;
 use std::ops::RangeInclusive;
@@ -332,6 +335,38 @@ impl Memory {
         Ok(map::cells_of_type(&mesh.live, row).len())
     }
 
+    /// The corners of a cell as points, three numbers each: 14, 3, 5, 16, 12.
+    pub fn points(
+        &self,
+        positions: &[i16],
+        cell: u32,
+        room: usize,
+    ) -> Result<Vec<Metres>, Refusal> {
+        let cell = self.queried_cell(cell)?;
+        positions_for_all(self.held()?, positions)?;
+        let corners = positions::corners(positions, cell);
+        refuse_if(room < 3 * corners.len(), Refusal::OutputShort)?;
+        Ok(corners)
+    }
+
+    /// The centre of a cell, as the sums of its corners' coordinates and the
+    /// count to divide them by: 14, 3, 5, 16.
+    pub fn centre(&self, positions: &[i16], cell: u32) -> Result<(Metres, i64), Refusal> {
+        let cell = self.queried_cell(cell)?;
+        positions_for_all(self.held()?, positions)?;
+        let corners = positions::corners(positions, cell);
+        Ok((positions::sums(&corners), corners.len() as i64))
+    }
+
+    /// The measure of a cell: 14, 3, 5, 6, 16.
+    pub fn measure(&self, positions: &[i16], cell: u32) -> Result<Measure, Refusal> {
+        let cell = self.queried_cell(cell)?;
+        has_measure(cell)?;
+        positions_for_all(self.held()?, positions)?;
+        let corners = positions::corners(positions, cell);
+        positions::measure(cell.row.name, &corners).ok_or(Refusal::TypeUnknown)
+    }
+
     /// "The whole check never refuses". Yes if memory holds a mesh, and a build
     /// from its own live cells under its edition is accepted.
     pub fn whole(&self) -> bool {
@@ -446,6 +481,18 @@ fn known_type(code: u32) -> Result<&'static Type, Refusal> {
 /// 6: "or dimension not 1 to 3"
 fn known_dimension(dimension: u32) -> Result<(), Refusal> {
     refuse_if(!DIMENSIONS.contains(&dimension), Refusal::TypeUnknown)
+}
+
+/// 6: "for a solid without a measure"
+fn has_measure(cell: &LiveCell) -> Result<(), Refusal> {
+    let without = ["PYRA_5", "PENTA_6", "HEXA_8"].contains(&cell.row.name);
+    refuse_if(without, Refusal::TypeUnknown)
+}
+
+/// 16: "for a position list shorter than three numbers per mark"
+fn positions_for_all(mesh: &Mesh, positions: &[i16]) -> Result<(), Refusal> {
+    let due = NUMBERS_A_MARK * mesh.marks as usize;
+    refuse_if(positions.len() < due, Refusal::PositionsShort)
 }
 
 /// 7: "wrong count of marks for the type"

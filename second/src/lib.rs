@@ -8,6 +8,7 @@
 //! - [`map`]: the definitions over the list of live cells.
 //! - [`refusal`]: the refusal numbers.
 //! - [`calls`]: every call, its checks in the listed order, then the answer.
+//! - [`positions`]: points, centres and measures, in whole metres.
 //! - [`cases`]: the outline's cases, with every answer, as text.
 //! - [`frames`]: the frame program, from input bytes to output bytes.
 
@@ -17,6 +18,7 @@ pub mod calls;
 pub mod cases;
 pub mod frames;
 pub mod map;
+pub mod positions;
 pub mod refusal;
 pub mod shapes;
 

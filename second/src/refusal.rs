@@ -21,12 +21,13 @@ pub enum Refusal {
     FacetOutside = 13,
     NotMesh = 14,
     BadFrame = 15,
+    PositionsShort = 16,
     FaceFull = 19,
 }
 
 impl Refusal {
     /// All of them, by number.
-    pub const ALL: [Refusal; 16] = [
+    pub const ALL: [Refusal; 17] = [
         Refusal::CapacityAbove,
         Refusal::MemoryShort,
         Refusal::CellOutside,
@@ -42,6 +43,7 @@ impl Refusal {
         Refusal::FacetOutside,
         Refusal::NotMesh,
         Refusal::BadFrame,
+        Refusal::PositionsShort,
         Refusal::FaceFull,
     ];
 
@@ -59,8 +61,8 @@ impl Refusal {
             Refusal::CellLive => "insert: the number is live",
             Refusal::CellNotLive => "the cell is not live",
             Refusal::TypeUnknown => {
-                "type code not in the table, dimension not 1 to 3, edition not 1 or 2, \
-                 or a listed edit's kind not 1 or 2"
+                "type code not in the table, dimension not 1 to 3, edition not 1 or 2, a listed \
+                 edit's kind not 1 or 2, or a solid without a measure"
             }
             Refusal::CountWrong => {
                 "wrong count of marks for the type or the lookup, or a build record or listed edit \
@@ -74,6 +76,7 @@ impl Refusal {
             Refusal::FacetOutside => "local facet not below the type's count",
             Refusal::NotMesh => "memory is not a mesh",
             Refusal::BadFrame => "bad frame (program only)",
+            Refusal::PositionsShort => "position list shorter than three numbers per mark",
             Refusal::FaceFull => "insert under edition 2: a third solid on a face",
         }
     }

@@ -6,6 +6,7 @@ mod common;
 
 use common::maps::{BAR, HEXA, PENTA, PYRA, QUAD, TETRA, TRI};
 use second::calls::{INSERT, REMOVE};
+use second::positions::{float, Metres};
 use second::{room, Memory, Refusal, Tally};
 use std::fmt::Write;
 
@@ -85,6 +86,7 @@ fn text() -> String {
     lines.verdict("insert 9", memory.insert(9, TRI, &WALL));
     lines.all(&memory);
     lines.second_edition(&mut memory);
+    lines.all_placed(&memory);
     lines.mornings(&mut memory);
     lines.0
 }
@@ -248,6 +250,34 @@ impl Lines {
         self.one(&format!("count {code}"), count);
     }
 
+    fn placed(&mut self, memory: &Memory, positions: &[i16], cell: u32, room: usize) {
+        let points = memory.points(positions, cell, room);
+        let count = points.as_ref().ok().map(|corners| corners.len() as u32);
+        let corners = points.iter().flatten();
+        let all = floats(corners.flat_map(|at| [at.x, at.y, at.z].map(float)));
+        let what = format!("points {cell}");
+        self.say(&what, number(&points), &[word(count), all]);
+        let centre = memory.centre(positions, cell);
+        let mean =
+            |(at, count): (Metres, i64)| [at.x, at.y, at.z].map(|sum| float(sum) / float(count));
+        let at = floats(centre.ok().map(mean).into_iter().flatten());
+        self.say(&format!("centre {cell}"), number(&centre), &[at]);
+        let measure = memory.measure(positions, cell);
+        let kind = word(measure.ok().map(|measure| measure.kind()));
+        let size = floats(measure.ok().map(|measure| float(measure.whole())));
+        self.say(&format!("measure {cell}"), number(&measure), &[kind, size]);
+    }
+
+    fn all_placed(&mut self, memory: &Memory) {
+        let metre = |n: u32| ((n * 7919 % 65_536) as i32 - 32_768) as i16;
+        let positions: Vec<i16> = (0..3 * MARKS).map(metre).collect();
+        for cell in 0..=CELLS {
+            self.placed(memory, &positions, cell, 24);
+            self.placed(memory, &positions[1..], cell, 5);
+            self.placed(memory, &positions, cell, 5);
+        }
+    }
+
     fn all(&mut self, memory: &Memory) {
         for dimension in 0..5 {
             self.around_mark_0(memory, dimension);
@@ -279,6 +309,11 @@ impl Lines {
 
 fn number<T>(answer: &Result<T, Refusal>) -> u8 {
     answer.as_ref().err().map_or(0, |refusal| refusal.number())
+}
+
+fn floats(floats: impl IntoIterator<Item = f64>) -> String {
+    let said = floats.into_iter().map(|float| format!(" {float:.3}"));
+    said.collect()
 }
 
 /// A word that the call writes, or leaves as it was.

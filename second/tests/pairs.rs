@@ -565,3 +565,67 @@ fn count_of_type_6() {
     }
     pairs.end(&[]);
 }
+
+const NO_TYPE: &str = "a cell that is not live has no type";
+
+/// A triangle 0 and a brick 2, none at 1, and 4 is the capacity; memory without
+/// a mesh.
+fn measured_memories() -> [Choice<Memory>; 2] {
+    let cells: [Record; 2] = [(0, TRI, &[0, 1, 2]), (2, HEXA, &[0, 1, 2, 3, 4, 5, 6, 7])];
+    [(mesh(8, 4, &cells), &[]), (Memory::lent(1000), &[14])]
+}
+
+/// For eight marks, and one number short. Without a mesh nothing tells how many
+/// are due; an empty list is short for any mesh with a mark.
+fn lists() -> [Choice<Vec<i16>>; 3] {
+    [(vec![1; 24], &[]), (vec![1; 23], &[16]), (vec![], &[16])]
+}
+
+#[test]
+fn points_14_3_5_16_12() {
+    let mut pairs = Pairs::in_order(&[14, 3, 5, 16, 12]);
+    for (memory, of_memory) in measured_memories() {
+        for (cell, of_cell) in cells() {
+            for (positions, of_list) in lists() {
+                for (room, of_room) in [(9, &[][..]), (8, &[12]), (0, &[12])] {
+                    let answer = memory.points(&positions, cell, room);
+                    pairs.see(&[of_memory, of_cell, of_list, of_room], answer.err());
+                }
+            }
+        }
+    }
+    pairs.end(&[]);
+}
+
+#[test]
+fn centre_14_3_5_16() {
+    let mut pairs = Pairs::in_order(&[14, 3, 5, 16]);
+    for (memory, of_memory) in measured_memories() {
+        for (cell, of_cell) in cells() {
+            for (positions, of_list) in lists() {
+                let answer = memory.centre(&positions, cell);
+                pairs.see(&[of_memory, of_cell, of_list], answer.err());
+            }
+        }
+    }
+    pairs.end(&[]);
+}
+
+#[test]
+fn measure_14_3_5_6_16() {
+    let mut pairs = Pairs::in_order(&[14, 3, 5, 6, 16]);
+    for (memory, of_memory) in measured_memories() {
+        for (cell, of_cell) in cells() {
+            for (positions, of_list) in lists() {
+                let answer = memory.measure(&positions, cell);
+                pairs.see(&[of_memory, of_cell, of_list], answer.err());
+            }
+        }
+        if memory.mesh.is_some() {
+            for (positions, of_list) in lists() {
+                pairs.see(&[&[6], of_list], memory.measure(&positions, 2).err());
+            }
+        }
+    }
+    pairs.end(&[(14, 6, NO_LIVE_CELL), (3, 6, NO_TYPE), (5, 6, NO_TYPE)]);
+}

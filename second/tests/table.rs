@@ -111,7 +111,7 @@ fn the_refusals_are_the_outlines() {
 3: a cell number is not below the capacity
 4: insert: the number is live
 5: the cell is not live
-6: type code not in the table, dimension not 1 to 3, edition not 1 or 2, or a listed edit's kind not 1 or 2
+6: type code not in the table, dimension not 1 to 3, edition not 1 or 2, a listed edit's kind not 1 or 2, or a solid without a measure
 7: wrong count of marks for the type or the lookup, or a build record or listed edit cut short
 8: a mark is not below the capacity
 9: a mark occurs twice
@@ -121,6 +121,7 @@ fn the_refusals_are_the_outlines() {
 13: local facet not below the type's count
 14: memory is not a mesh
 15: bad frame (program only)
+16: position list shorter than three numbers per mark
 19: insert under edition 2: a third solid on a face
 ";
     let lines: String = Refusal::ALL

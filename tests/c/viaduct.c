@@ -57,6 +57,7 @@ static const uint32_t back[] = {MK_INSERT, 1, MK_TRI_3, 0, 2, 3, MK_INSERT, 5, M
 static uint32_t mesh[WORDS];
 static uint32_t list[PLACES];
 static uint32_t ways[PLACES];
+static int16_t positions[3 * MARKS];
 
 static void say_number(uint32_t number)
 {
@@ -215,6 +216,48 @@ static void all(void)
     whole();
 }
 
+static void say_floats(const double *at, uint32_t count)
+{
+    printf(";");
+    for (uint32_t i = 0; i < count; i++) {
+        printf(" %.3f", at[i]);
+    }
+}
+
+/* the corners, the centre and the measure of a cell */
+static void placed(uint32_t cell, size_t numbers, size_t room)
+{
+    double out[24];
+    double at[3] = {0, 0, 0};
+    double size = 0;
+    uint32_t corners = UNWRITTEN;
+    uint32_t kind = UNWRITTEN;
+    uint8_t refusal = mk_points(mesh, WORDS, positions, numbers, cell, out, room, &corners);
+    printf("points %u: %u;", cell, refusal);
+    say_number(corners);
+    say_floats(out, refusal == MK_ACCEPTED ? 3 * corners : 0);
+    refusal = mk_centre(mesh, WORDS, positions, numbers, cell, &at[0], &at[1], &at[2]);
+    printf("\ncentre %u: %u", cell, refusal);
+    say_floats(at, refusal == MK_ACCEPTED ? 3 : 0);
+    refusal = mk_measure(mesh, WORDS, positions, numbers, cell, &kind, &size);
+    printf("\nmeasure %u: %u;", cell, refusal);
+    say_number(kind);
+    say_floats(&size, refusal == MK_ACCEPTED ? 1 : 0);
+    printf("\n");
+}
+
+static void all_placed(void)
+{
+    for (uint32_t n = 0; n < 3 * MARKS; n++) {
+        positions[n] = (int16_t)((int)(n * 7919 % 65536) - 32768);
+    }
+    for (uint32_t cell = 0; cell <= CELLS; cell++) {
+        placed(cell, 3 * MARKS, 24);
+        placed(cell, 3 * MARKS - 1, 5);
+        placed(cell, 3 * MARKS, 5);
+    }
+}
+
 static void build(const uint32_t *from, size_t count)
 {
     uint32_t place = UNWRITTEN;
@@ -328,6 +371,7 @@ int main(void)
     say_verdict("insert 9", mk_insert(mesh, WORDS, 9, MK_TRI_3, wall, 3));
     all();
     second_edition();
+    all_placed();
     mornings();
     return 0;
 }

@@ -2,8 +2,11 @@
 //! and the map that memory tells.
 #![allow(dead_code)] // each run uses a part
 
-use mengkiloh::{Cell, Half, Mark, Mesh, Records, Refusal};
+use std::sync::OnceLock;
+
+use mengkiloh::{Cell, Half, Mark, Measure, Mesh, Records, Refusal};
 use second::map::LiveCell;
+use second::positions::float;
 use second::shapes::type_with_code;
 use second::Memory;
 pub use streams::chance::Chance;
@@ -91,6 +94,9 @@ pub enum Question {
     Lookup(Vec<u32>),
     Cells(u32),
     Count(u32),
+    Points(u32),
+    Centre(u32),
+    Measure(u32),
 }
 
 const PLENTY: usize = 70_000;
@@ -103,7 +109,7 @@ impl Question {
         let facet = chance.below(7);
         let dimension = chance.below(5);
         let code = chance.below(9);
-        match chance.below(13) {
+        match chance.below(16) {
             0 => Question::Type(cell),
             1 => Question::Marks(cell),
             2 => Question::Neighbours(cell),
@@ -119,6 +125,9 @@ impl Question {
             }
             10 => Question::Cells(code),
             11 => Question::Edition,
+            12 => Question::Points(cell),
+            13 => Question::Centre(cell),
+            14 => Question::Measure(cell),
             _ => Question::Count(code),
         }
     }
@@ -157,6 +166,11 @@ impl Question {
                 listed(most, |out| mesh.cells_into(code, out))
             }
             Question::Count(code) => ours(mesh.count(code), one),
+            Question::Points(c) => pointed(24, |out| mesh.points_into(positions(), Cell(c), out)),
+            Question::Centre(c) => ours(mesh.centre(positions(), Cell(c)), |point| {
+                bits([point.x, point.y, point.z])
+            }),
+            Question::Measure(c) => ours(mesh.measure(positions(), Cell(c)), measured),
         }
     }
 
@@ -197,6 +211,17 @@ impl Question {
             Question::Lookup(ref set) => theirs(memory.lookup(set), perhaps),
             Question::Cells(code) => theirs(memory.cells_of_type(code, PLENTY), |list| list),
             Question::Count(code) => theirs(memory.count_of_type(code), |count| vec![count as u32]),
+            Question::Points(cell) => theirs(memory.points(positions(), cell, 24), |corners| {
+                bits(corners.iter().flat_map(|at| [at.x, at.y, at.z].map(float)))
+            }),
+            Question::Centre(cell) => theirs(memory.centre(positions(), cell), |(sums, count)| {
+                bits([sums.x, sums.y, sums.z].map(|sum| float(sum) / float(count)))
+            }),
+            Question::Measure(cell) => theirs(memory.measure(positions(), cell), |measure| {
+                let mut numbers = vec![measure.kind()];
+                numbers.extend(bits([float(measure.whole())]));
+                numbers
+            }),
         }
     }
 }
@@ -212,6 +237,60 @@ fn cycled<W: AsRef<[u32]>>(mesh: &Mesh<W>, cell: Cell, facet: u32) -> Said {
     assert!(rest.into_iter().all(|&word| word == SENTINEL));
     numbers.extend(&ways[1..1 + count]);
     (number, numbers)
+}
+
+/// The exact bits of floats, two words each.
+pub fn bits(floats: impl IntoIterator<Item = f64>) -> Vec<u32> {
+    let halves = |float: f64| [(float.to_bits() >> 32) as u32, float.to_bits() as u32];
+    floats.into_iter().flat_map(halves).collect()
+}
+
+/// The number of a measure's kind, and the bits of its float.
+pub fn measured(measure: Measure) -> Vec<u32> {
+    let (kind, size) = match measure {
+        Measure::SquaredLength(size) => (1, size),
+        Measure::DoubledArea(size) => (2, size),
+        Measure::SixfoldVolume(size) => (3, size),
+    };
+    let mut numbers = vec![kind];
+    numbers.extend(bits([size]));
+    numbers
+}
+
+/// The bits of points from an output between sentinels: nothing is written but
+/// three floats a corner, and nothing at all by a refusal.
+pub fn pointed(room: usize, fill: impl FnOnce(&mut [f64]) -> Result<usize, Refusal>) -> Said {
+    const EDGE: usize = 4;
+    const LEFT: f64 = 12_345.678;
+    let mut out = vec![LEFT; EDGE + room + EDGE];
+    let answer = fill(&mut out[EDGE..EDGE + room]);
+    let given = 3 * answer.unwrap_or(0);
+    assert!(given <= room);
+    let rest = out[..EDGE].iter().chain(&out[EDGE + given..]);
+    assert!(rest
+        .into_iter()
+        .all(|float| float.to_bits() == LEFT.to_bits()));
+    ours(answer, |_| bits(out[EDGE..EDGE + given].iter().copied()))
+}
+
+/// Positions for as many marks as there can be, by chance, many at an extreme.
+pub fn positions() -> &'static [i16] {
+    static LIST: OnceLock<Vec<i16>> = OnceLock::new();
+    LIST.get_or_init(|| {
+        let mut chance = Chance::from_seed(4);
+        (0..3 * 65_535).map(|_| metre(&mut chance)).collect()
+    })
+}
+
+/// A whole metre by chance, often an extreme or none.
+pub fn metre(chance: &mut Chance) -> i16 {
+    match chance.below(8) {
+        0 => i16::MIN,
+        1 => i16::MAX,
+        2 => 0,
+        3 => -1,
+        _ => (chance.below(65_536) as i32 - 32_768) as i16,
+    }
 }
 
 /// The map that the records of well-formed memory tell (docs/LAYOUT.md).
