@@ -1,8 +1,12 @@
 //! Nanoseconds a call: the proved library beside a plain-Rust hash map of
-//! facet sets, in one run on one machine.
+//! facet sets, in one run on one machine; with `switchboard` and files of surfaces,
+//! what request 11 asks.
 
+mod clock;
 mod facet_map;
+mod facet_sets;
 mod maps;
+mod switchboard;
 
 use facet_map::FacetMap;
 use maps::{mixed, triangles, Body, Map};
@@ -26,6 +30,14 @@ const ROWS: [&str; 8] = [
 ];
 
 fn main() {
+    let words: Vec<String> = std::env::args().skip(1).collect();
+    match words.split_first() {
+        Some((word, files)) if word == "switchboard" => switchboard::run(files),
+        _ => calls(),
+    }
+}
+
+fn calls() {
     let maps = [
         triangles(1_000),
         triangles(10_000),
