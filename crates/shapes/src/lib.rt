@@ -31,12 +31,6 @@ const COLUMNS: u32 = 5;
 // For each type its facets, each as the count of its corners and their places, padded with 0.
 pub type FacetTable = [[[u8; COLUMNS as usize]; MOST_FACETS as usize]; CODES as usize];
 
-const DIMENSIONS: [u8; CODES as usize] = [0, 1, 2, 2, 3, 3, 3, 3];
-
-const MARKS: [u8; CODES as usize] = [0, 2, 3, 4, 4, 5, 6, 8];
-
-const FACETS: [u8; CODES as usize] = [0, 2, 3, 4, 4, 5, 5, 6];
-
 const PLACES: FacetTable = [
     [
         [0, 0, 0, 0, 0],
@@ -121,10 +115,15 @@ pub fn facet_table() -> FacetTable
 pub fn dimension(t: u32) -> u32
     ensures { λ r. ⌜ r ≡ shape t .dimension ⌝ }
 {
-    if t < CODES {
-        wide(DIMENSIONS[t as usize])
-    } else {
-        0
+    match t {
+        1 => 1,
+        2 => 2,
+        3 => 2,
+        4 => 3,
+        5 => 3,
+        6 => 3,
+        7 => 3,
+        _ => 0,
     }
 }
 
@@ -132,10 +131,15 @@ pub fn dimension(t: u32) -> u32
 pub fn mark_count(t: u32) -> u32
     ensures { λ r. ⌜ r ≡ shape t .marks ⌝ }
 {
-    if t < CODES {
-        wide(MARKS[t as usize])
-    } else {
-        0
+    match t {
+        1 => 2,
+        2 => 3,
+        3 => 4,
+        4 => 4,
+        5 => 5,
+        6 => 6,
+        7 => 8,
+        _ => 0,
     }
 }
 
@@ -143,10 +147,15 @@ pub fn mark_count(t: u32) -> u32
 pub fn facet_count(t: u32) -> u32
     ensures { λ r. ⌜ r ≡ facetCount t ⌝ }
 {
-    if t < CODES {
-        wide(FACETS[t as usize])
-    } else {
-        0
+    match t {
+        1 => 2,
+        2 => 3,
+        3 => 4,
+        4 => 4,
+        5 => 5,
+        6 => 5,
+        7 => 6,
+        _ => 0,
     }
 }
 

@@ -1,19 +1,24 @@
 -- `shapes::facet_count` meets its contract.
-use mathlib.Core.Path.{sym, ap, _∙_}
+use Prim.Native.Nat.{ℕ}
 use lib.ListN.{length}
-use Rattle.shapes.specs.Shapes.{Shape, noShape, shapes, shape, facetCount}
-use Rattle.shapes.proofs.Read.{by-code, no-code}
-use borrow.Author.Needs.{needs}
+use Rattle.shapes.specs.Shapes.{Shape, noShape, shapes, facetCount}
+use Rattle.shapes.proofs.Read.{by-code, no-type}
 use Rattle.shapes.proofs.facet_count.Statement.{statement}
 use Rattle.shapes.proofs.facet_count.Tie as tie
 
-returns : tie.Need-returns
-unfolding noShape shapes facetCount
-returns c = c .wide .ensures ∙ by-code (λ (s : Shape). length (s .facets)) (c .before .before .args .t)
-
-returns-2 : tie.Need-returns-2
-unfolding noShape facetCount
-returns-2 c = sym (ap (λ (s : Shape). length (s .facets)) (no-code (c .before .args .t) (c .if1 .left)))
+abbrev number : Shape → ℕ
+number = λ (s : Shape). length (s .facets)
 
 pub facet-count-spec : {M : Type 1} → statement M
-facet-count-spec = tie.close (tie.spec (λ c. search needs) (λ c κs. search needs) returns returns-2)
+unfolding noShape shapes facetCount
+facet-count-spec =
+    tie.close
+    (tie.spec
+    (λ c. by-code number _ 1 (c .match .keys1))
+    (λ c. by-code number _ 2 (c .match .keys2))
+    (λ c. by-code number _ 3 (c .match .keys3))
+    (λ c. by-code number _ 4 (c .match .keys4))
+    (λ c. by-code number _ 5 (c .match .keys5))
+    (λ c. by-code number _ 6 (c .match .keys6))
+    (λ c. by-code number _ 7 (c .match .keys7))
+    (λ c. no-type number _ (c .match .rest)))

@@ -1,19 +1,23 @@
 -- `shapes::mark_count` meets its contract.
-use mathlib.Core.Path.{sym, ap, _∙_}
-use lib.ListN.{length}
-use Rattle.shapes.specs.Shapes.{Shape, noShape, shapes, shape, facetCount}
-use Rattle.shapes.proofs.Read.{by-code, no-code}
-use borrow.Author.Needs.{needs}
+use Prim.Native.Nat.{ℕ}
+use Rattle.shapes.specs.Shapes.{Shape, noShape, shapes}
+use Rattle.shapes.proofs.Read.{by-code, no-type}
 use Rattle.shapes.proofs.mark_count.Statement.{statement}
 use Rattle.shapes.proofs.mark_count.Tie as tie
 
-returns : tie.Need-returns
-unfolding noShape shapes
-returns c = c .wide .ensures ∙ by-code (λ (s : Shape). s .marks) (c .before .before .args .t)
-
-returns-2 : tie.Need-returns-2
-unfolding noShape
-returns-2 c = sym (ap (λ (s : Shape). s .marks) (no-code (c .before .args .t) (c .if1 .left)))
+abbrev number : Shape → ℕ
+number = λ (s : Shape). s .marks
 
 pub mark-count-spec : {M : Type 1} → statement M
-mark-count-spec = tie.close (tie.spec (λ c. search needs) (λ c κs. search needs) returns returns-2)
+unfolding noShape shapes
+mark-count-spec =
+    tie.close
+    (tie.spec
+    (λ c. by-code number _ 1 (c .match .keys1))
+    (λ c. by-code number _ 2 (c .match .keys2))
+    (λ c. by-code number _ 3 (c .match .keys3))
+    (λ c. by-code number _ 4 (c .match .keys4))
+    (λ c. by-code number _ 5 (c .match .keys5))
+    (λ c. by-code number _ 6 (c .match .keys6))
+    (λ c. by-code number _ 7 (c .match .keys7))
+    (λ c. no-type number _ (c .match .rest)))
