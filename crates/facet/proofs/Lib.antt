@@ -1,5 +1,6 @@
 -- The laws that the layers above cite.
 pub mod Copy
+pub mod Held
 pub mod Sets
 pub mod Read
 pub mod Match

@@ -1,29 +1,37 @@
 -- The first facet with a set of marks.
 use mathlib.Core.Path.{_≡_, refl, sym, ap, _∙_}
 use mathlib.Core.Bool.{Bool, true, false}
-use mathlib.Core.List.{List}
+use mathlib.Core.List.{List, _∷_}
 use Prim.Native.Nat.{ℕ, _+_, _<_, _≤_}
-use Rattle.lists.specs.Lists.{sameSet, select, first}
+use Rattle.lists.specs.Lists.{has, all, sameSet, select, first}
 use Rattle.lists.proofs.Order.{first-select}
 use Rattle.lists.proofs.Counts.{select-empty}
 use Rattle.shapes.specs.Shapes.{facetCount}
 use Rattle.numbers.specs.declared.Caps.{Caps}
 use Rattle.store.specs.Slots.{codeIn}
-use Rattle.facet.specs.Facet.{facetIn, matchIn}
+use Rattle.facet.specs.Facet.{marksIn, setIn, matchIn}
+use Rattle.facet.proofs.Held.{not-spanned}
 use Rattle.shapes.specs.Sizes.{noFacet}
 
-module _ (w : List ℕ) (caps : Caps) (rows : List (List (List ℕ))) (c : ℕ) (set : List ℕ) (t n : ℕ)
-    (code : t ≡ codeIn w caps c) (count : n ≡ facetCount t) where
-  facets : facetCount (codeIn w caps c) ≡ n
-  facets = sym (count ∙ ap facetCount code)
+module _ (rows : List (List (List ℕ))) (t : ℕ) (marks set : List ℕ) where
+  abbrev matched : ℕ → Bool
+  matched f = sameSet set (setIn rows t f marks)
 
-  pub match-found : (f : ℕ) → ((k : ℕ) → k < f → sameSet set (facetIn w caps rows c k) ≡ false)
-      → sameSet set (facetIn w caps rows c f) ≡ true → f < n → f ≡ matchIn w caps rows c set
-  unfolding matchIn
-  match-found f before e h =
-      rw facets (sym (first-select noFacet (λ f. sameSet set (facetIn w caps rows c f)) n f h e before))
+  -- none where the set has a number that is none of the marks
+  pub match-other : all (λ x. has x (0 ∷ marks)) set ≡ false → noFacet ≡ first noFacet (select matched (facetCount t))
+  unfolding first
+  match-other e = rw (select-empty matched (facetCount t) (λ f h. not-spanned rows t f marks set e))
 
-  pub match-none : (f : ℕ) → ((k : ℕ) → k < f → sameSet set (facetIn w caps rows c k) ≡ false) → f ≡ n → noFacet ≡ matchIn w caps rows c set
-  unfolding matchIn first
-  match-none f before e =
-      rw (facets, select-empty (λ f. sameSet set (facetIn w caps rows c f)) n (rw e at before))
+  module _ (n : ℕ) (count : n ≡ facetCount t) (f : ℕ) (before : (k : ℕ) → k < f → matched k ≡ false) where
+    pub match-found : matched f ≡ true → f < n → f ≡ first noFacet (select matched (facetCount t))
+    match-found e h = rw (← count) (sym (first-select noFacet matched n f h e before))
+
+    pub match-none : f ≡ n → noFacet ≡ first noFacet (select matched (facetCount t))
+    unfolding first
+    match-none e = rw (← count, select-empty matched n (rw e at before))
+
+-- as the record of a cell gives its type and marks
+pub match-here : (w : List ℕ) (caps : Caps) (rows : List (List (List ℕ))) (c : ℕ) (set marks : List ℕ) (t r : ℕ) → t ≡ codeIn w caps c → marks ≡ marksIn w caps c
+    → r ≡ first noFacet (select (λ f. sameSet set (setIn rows t f marks)) (facetCount t)) → r ≡ matchIn w caps rows c set
+unfolding matchIn
+match-here w caps rows c set marks t r code held e = rw (← code, ← held) e

@@ -4,14 +4,15 @@
 // facet of a cell; `facet_has` tells whether it holds a mark, `matching` finds the facet of a cell with a given set of marks. All are
 // total on any memory. What is proved: each answer is that of specs/Facet.antt, on any memory and any table; on the picture of a map
 // these are the facets of the definitions (proofs/Read.antt). What a caller should know: the table is handed down, so that it is copied
-// once a call.
+// once a call; `facet_has` and `matching` copy no mark.
 ghost use mathlib.Core.Path.{_≡_};
+ghost use mathlib.Core.List.{_∷_};
 ghost use Prim.Native.Nat.{min};
-ghost use Rattle.lists.specs.Lists.{has, sameSet};
+ghost use Rattle.lists.specs.Lists.{has, all, sameSet, select, first};
 ghost use Rattle.lists.specs.Filled.{Copied};
-ghost use Rattle.shapes.specs.Sizes.{mostCorners};
+ghost use Rattle.shapes.specs.Shapes.{facetCount};
+ghost use Rattle.shapes.specs.Sizes.{mostCorners, noFacet};
 ghost use Rattle.facet.specs.Facet.{MarksAt, setIn, facetIn, matchIn};
-use lists::same_set;
 use numbers::Caps;
 use numbers::Cell;
 use numbers::Mark;
@@ -23,7 +24,6 @@ use shapes::facet_count;
 use shapes::mark_count;
 use store::code_of;
 use store::marks_of;
-use words::part;
 use words::put;
 use words::word;
 
@@ -67,35 +67,107 @@ pub fn copy_facet(w: &[u32], caps: Caps, rows: &FacetTable, c: Cell, f: u32, out
     facet_set(rows, code_of(w, caps, c), f, marks_at(w, caps, c), out)
 }
 
-// Whether the facet has exactly this set of marks.
-fn same_facet(w: &[u32], caps: Caps, rows: &FacetTable, c: Cell, f: u32, set: &[u32]) -> bool
-    ensures { λ r. ⌜ r ≡ sameSet (now (set .entry)) (facetIn (now (w .entry)) caps (now (rows .entry)) (c .0) f) ⌝ }
+// Whether a facet of the type holds the mark.
+fn set_has(rows: &FacetTable, t: u32, f: u32, marks: &[u32], v: u32) -> bool
+    ensures { λ r. ⌜ r ≡ has v (setIn (now (rows .entry)) t f (now (marks .entry))) ⌝ }
 {
-    let mut marks = [0u32; MOST_CORNERS as usize];
-    let n = copy_facet(w, caps, rows, c, f, &mut marks);
-    same_set(set, part(&marks, 0, n as usize))
+    let n = four_at_most(column(rows, t, f, 0));
+    let mut k: u32 = 0;
+    while k < n {
+        let next = k + 1;
+        if word(marks, column(rows, t, f, next) as usize) == v {
+            return true;
+        }
+        k = next;
+    }
+    false
+}
+
+// Whether all marks of a facet of the type are in the set.
+fn set_within(rows: &FacetTable, t: u32, f: u32, marks: &[u32], set: &[u32]) -> bool
+    ensures { λ r. ⌜ r ≡ all (λ x. has x (now (set .entry))) (setIn (now (rows .entry)) t f (now (marks .entry))) ⌝ }
+{
+    let n = four_at_most(column(rows, t, f, 0));
+    let mut k: u32 = 0;
+    while k < n {
+        let next = k + 1;
+        if !lists::has(set, word(marks, column(rows, t, f, next) as usize)) {
+            return false;
+        }
+        k = next;
+    }
+    true
+}
+
+// Whether a facet of the type has exactly this set of marks.
+fn same_facet(rows: &FacetTable, t: u32, f: u32, marks: &[u32], set: &[u32]) -> bool
+    ensures { λ r. ⌜ r ≡ sameSet (now (set .entry)) (setIn (now (rows .entry)) t f (now (marks .entry))) ⌝ }
+{
+    if !set_within(rows, t, f, marks, set) {
+        return false;
+    }
+    let mut i: usize = 0;
+    while i < set.len() {
+        if !set_has(rows, t, f, marks, set[i]) {
+            return false;
+        }
+        i += 1;
+    }
+    true
+}
+
+// Whether the number is one of the marks, or 0, which a place beyond them reads as.
+fn known(marks: &[u32], x: u32) -> bool
+    ensures { λ r. ⌜ r ≡ has x (0 ∷ now (marks .entry)) ⌝ }
+{
+    if x == 0 {
+        return true;
+    }
+    lists::has(marks, x)
+}
+
+// Whether all of the set are; the last mark first, since the first is the one that led to the cell.
+fn spans(marks: &[u32], set: &[u32]) -> bool
+    ensures { λ r. ⌜ r ≡ all (λ x. has x (0 ∷ now (marks .entry))) (now (set .entry)) ⌝ }
+{
+    let mut i = set.len();
+    while 0 < i {
+        i -= 1;
+        if !known(marks, set[i]) {
+            return false;
+        }
+    }
+    true
+}
+
+// The first facet of the type with this set of marks; 8 where there is none.
+fn first_facet(rows: &FacetTable, t: u32, marks: &[u32], set: &[u32]) -> u32
+    ensures { λ r. ⌜ r ≡ first noFacet (select (λ f. sameSet (now (set .entry)) (setIn (now (rows .entry)) t f (now (marks .entry)))) (facetCount t)) ⌝ }
+{
+    if !spans(marks, set) {
+        return NO_FACET;
+    }
+    let n = facet_count(t);
+    let mut f: u32 = 0;
+    while f < n {
+        if same_facet(rows, t, f, marks, set) {
+            return f;
+        }
+        f += 1;
+    }
+    NO_FACET
 }
 
 // Whether the facet holds the mark.
 pub fn facet_has(w: &[u32], caps: Caps, rows: &FacetTable, c: Cell, f: u32, v: Mark) -> bool
     ensures { λ r. ⌜ r ≡ has (v .0) (facetIn (now (w .entry)) caps (now (rows .entry)) (c .0) f) ⌝ }
 {
-    let mut marks = [0u32; MOST_CORNERS as usize];
-    let n = copy_facet(w, caps, rows, c, f, &mut marks);
-    lists::has(part(&marks, 0, n as usize), v.0)
+    set_has(rows, code_of(w, caps, c), f, marks_at(w, caps, c), v.0)
 }
 
 // The first facet of the cell with this set of marks; 8 where there is none.
 pub fn matching(w: &[u32], caps: Caps, rows: &FacetTable, c: Cell, set: &[u32]) -> u32
     ensures { λ r. ⌜ r ≡ matchIn (now (w .entry)) caps (now (rows .entry)) (c .0) (now (set .entry)) ⌝ }
 {
-    let n = facet_count(code_of(w, caps, c));
-    let mut f: u32 = 0;
-    while f < n {
-        if same_facet(w, caps, rows, c, f, set) {
-            return f;
-        }
-        f += 1;
-    }
-    NO_FACET
+    first_facet(rows, code_of(w, caps, c), marks_at(w, caps, c), set)
 }

@@ -1,7 +1,7 @@
 -- Two lists held to each other place by place: a rotation of the one, or of the one reversed, is the other.
 use mathlib.Core.Path.{_≡_, refl, sym, ap, _∙_}
-use mathlib.Core.Bool.{Bool, true, false, cond}
-use mathlib.Core.List.{List, _++_, reverse}
+use mathlib.Core.Bool.{Bool, true, false, cond, _&&_}
+use mathlib.Core.List.{List, [], _∷_, _++_, reverse}
 use Prim.Native.Nat.{ℕ, _+_, _-_, _/_, _%_, _<_, _≤_}
 use native.Mathlib.Decide.{decLt}
 use native.Mathlib.Omega.{arith}
@@ -14,7 +14,9 @@ use Rattle.lists.proofs.Bools.{not-true-false, same-test}
 use Rattle.lists.proofs.Every.{every-at, at-every, every-start, every-more, every-stop, every-end}
 use Rattle.lists.proofs.Through.{none-start, none-more, one-there, none-all}
 use Rattle.numbers.specs.declared.Caps.{Caps}
-use Rattle.facet.specs.Facet.{facetIn}
+use Rattle.shapes.specs.Table.{entry}
+use Rattle.facet.specs.Facet.{setMark, setIn, marksIn, facetIn}
+use Rattle.store.specs.Slots.{codeIn}
 use Rattle.map.specs.declared.Way.{Way}
 use Rattle.map.specs.declared.Way.the-variants.{Lone, Same, Opposite, Neither}
 use Rattle.map.specs.Ways.{turned, rotation, runs, direction}
@@ -201,13 +203,39 @@ module _ (f g : ℕ) (a b : List ℕ) (x : Way) where
     unfolding direction heading
     face-way one two alike against = e ∙ rw (alike, against, ne-eqb (length a) 1 one, ne-eqb (length a) 2 two)
 
+-- two marks held to two
+module _ (a b c d : ℕ) where
+  pub pair-other : (a ≡ c → ⊥) → false ≡ same (a ∷ b ∷ []) (c ∷ d ∷ [])
+  unfolding same
+  pair-other ne = rw (ne-eqb a c ne)
+
+  pub pair-first : a ≡ c → eqb b d ≡ same (a ∷ b ∷ []) (c ∷ d ∷ [])
+  unfolding same
+  pair-first e = rw (eq-eqb a c e) (go (eqb b d))
+    where
+      go : (x : Bool) → x ≡ x && true
+      go true = refl
+      go false = refl
+
+  pub pair-way : (f g : ℕ) (l m : List ℕ) → l ≡ a ∷ b ∷ [] → m ≡ c ∷ d ∷ [] → (p q : Bool) (x : Way) → x ≡ runs p q
+      → p ≡ same (a ∷ b ∷ []) (c ∷ d ∷ []) → q ≡ same (a ∷ b ∷ []) (d ∷ c ∷ []) → x ≡ direction f l g m
+  unfolding direction
+  pair-way f g l m el em p q x e alike against = e ∙ rw (el, em, alike, against)
+
+-- a facet of two corners by its marks
+pub edge-is : (rows : List (List (List ℕ))) (t f : ℕ) (marks : List ℕ) (k j a b : ℕ) → k ≡ entry rows t f 1 → a ≡ getD marks k 0 → j ≡ entry rows t f 2
+    → b ≡ getD marks j 0 → entry rows t f 0 ≡ 2 → setIn rows t f marks ≡ a ∷ b ∷ []
+unfolding setIn setMark listOf
+edge-is rows t f marks k j a b ek ea ej eb two = rw (two, ea, ek, eb, ej)
+
 -- the way of two half-facets, as the code reads it
 module _ (w : List ℕ) (caps : Caps) (rows : List (List (List ℕ))) (h x : ℕ) where
   pub facing-self : h ≡ x → Lone ≡ facingIn w caps rows h x
   unfolding facingIn
   facing-self e = rw (eq-eqb h x e)
 
-  pub facing-other : (h ≡ x → ⊥) → (c f d g : ℕ) (a b : List ℕ) (r : Way) → c ≡ h / 8 → f ≡ h % 8 → d ≡ x / 8 → g ≡ x % 8
-      → a ≡ facetIn w caps rows c f → b ≡ facetIn w caps rows d g → r ≡ direction f a g b → r ≡ facingIn w caps rows h x
+  pub facing-other : (h ≡ x → ⊥) → (c d t u f g : ℕ) (a b : List ℕ) (r : Way) → c ≡ h / 8 → d ≡ x / 8 → t ≡ codeIn w caps c → f ≡ h % 8
+      → a ≡ marksIn w caps c → u ≡ codeIn w caps d → g ≡ x % 8 → b ≡ marksIn w caps d → r ≡ direction f (setIn rows t f a) g (setIn rows u g b)
+      → r ≡ facingIn w caps rows h x
   unfolding facingIn
-  facing-other ne c f d g a b r ec ef ed eg ea eb er = er ∙ rw (ea, eb, ec, ef, ed, eg, ne-eqb h x ne)
+  facing-other ne c d t u f g a b r ec ed et ef ea eu eg eb er = er ∙ rw (et, ea, eu, eb, ec, ed, ef, eg, ne-eqb h x ne)

@@ -2,14 +2,14 @@
 use mathlib.Core.Path.{_≡_, refl, sym, ap, _∙_}
 use mathlib.Core.Bool.{true}
 use mathlib.Core.List.{List, [], _∷_, _++_, map, map-append, append-nil}
-use Prim.Native.Nat.{ℕ, _+_, _%_, _<_, _≤_}
+use Prim.Native.Nat.{ℕ, suc, _+_, _/_, _%_, _<_, _≤_}
 use native.Mathlib.Numerals.{add-one}
 use native.Mathlib.Omega.{arith}
 use borrow.Author.Tests.{lt-ltb, le-ltb, ltb-true}
 use lib.Dec.{ltb}
-use lib.ListN.{length, getD, set, take, length-append}
-use lib.Seq.{take-suc, take-at}
-use Rattle.lists.specs.Lists.{has, keep}
+use lib.ListN.{length, getD, set, take, replicate, length-append, length-set, length-replicate}
+use lib.Seq.{take-suc, take-at, take-set-le, getD-set-same}
+use Rattle.lists.specs.Lists.{has, keep, select}
 use Rattle.lists.specs.Filled.{Copied}
 use Rattle.lists.proofs.Fill.{fill-start, fill-more}
 use Rattle.lists.proofs.Keep.{keep-out}
@@ -20,19 +20,21 @@ use Rattle.numbers.proofs.Inverse.{half-uncut}
 use Rattle.numbers.specs.declared.Caps.{Caps}
 use Rattle.map.specs.Siblings.{sharers}
 use Rattle.picture.specs.State.{State, mapWith}
-use Rattle.picture.specs.Picture.{Pic, chainOf}
+use Rattle.picture.specs.Picture.{Pic, chainOf, link}
 use Rattle.picture.specs.Ready.{Ready}
-use Rattle.chain.specs.Chain.{Gathered}
+use Rattle.store.specs.Fields.{Link}
+use Rattle.store.specs.Slots.{InCell, read}
+use Rattle.chain.specs.Chain.{Linked}
+use Rattle.chain.proofs.Walks.{Walking, Walked, walking-start, walking-step, walking-end, walking-full}
 use Rattle.facet.specs.Facet.{matchIn}
 use Rattle.sibling.specs.Shared.{Shared, SetInside}
 use Rattle.facet.specs.Facet.{matchAt}
 use Rattle.sibling.specs.Halves.{halvesOf, halvesCut}
 use Rattle.lists.proofs.Mapped.{map-same, keep-end}
-use Rattle.chain.proofs.Readied.{ready-linked}
 use Rattle.facet.proofs.Read.{match-read}
 use Rattle.sibling.proofs.Along.{sharers-along}
 use Rattle.shapes.specs.Sizes.{noFacet}
-use Rattle.numbers.specs.Sizes.{pastCells}
+use Rattle.numbers.specs.Sizes.{pastCells, mostAround}
 
 module _ (match : ℕ → ℕ) (cells o : List ℕ) where
   pub write-start : Copied (halvesCut match (take 0 cells)) o 0 o
@@ -74,22 +76,92 @@ halves-uncut match match′ cells f =
     ∙ map-same (λ c. halfOf c (match c)) (λ c. halfOf c (match′ c)) (keep (λ c. ltb (match′ c) noFacet) cells)
     (λ c h. ap (halfOf c) (f c (keep-out (λ c. ltb (match′ c) noFacet) cells c h .1) .1)))
 
--- along the gathered chain of the first mark the sharers of the set are written
-pub shared-list : (w : List ℕ) (caps : Caps) (rows : List (List (List ℕ))) (set zeros cells o : List ℕ) (v count n : ℕ) (o′ : List ℕ)
-    → v ≡ getD set 0 0 → Gathered w caps v zeros count cells → count ≤ length zeros
-    → Copied (halvesCut (λ c. matchIn w caps rows c set) (take count cells)) o n o′
-    → (s : State) → Pic w caps s → Ready caps s → SetInside caps rows set → Copied (sharers (mapWith caps s) set) o n o′
+-- the chain of a mark walked, i cells of it, and y the link on: their half-facets stand in the first places of the output
+pub record Going (match : ℕ → ℕ) (caps : Caps) (s : State) (v : ℕ) (o o′ : List ℕ) (n i y : ℕ) : Type 0 where
+  pub room : List ℕ
+  pub cells : List ℕ
+  pub long : length cells ≡ mostAround
+  pub fits : length room ≡ mostAround
+  pub walking : Walking caps s v room cells i y
+  pub wrote : Copied (halvesCut match (take i cells)) o n o′
+
+module _ (match : ℕ → ℕ) (caps : Caps) (s : State) (v : ℕ) (o : List ℕ) where
+  pub going-start : (y : ℕ) → y ≡ link caps s v 0 → Going match caps s v o o 0 0 y
+  going-start y e = record {
+    room = replicate mostAround 0;
+    cells = replicate mostAround 0;
+    long = length-replicate {A = ℕ} mostAround 0;
+    fits = length-replicate {A = ℕ} mostAround 0;
+    walking = walking-start caps s v (replicate mostAround 0) y e;
+    wrote = write-start match (replicate mostAround 0) o;
+  }
+
+  -- one cell more: its match is written, or it has none
+  module _ (w : List ℕ) (p : Pic w caps s) (l : Linked caps s) (o′ : List ℕ) (n i y k y′ f : ℕ) (g : Going match caps s v o o′ n i y) (e : y ≡ suc k)
+      (on : y′ ≡ read w caps (InCell (k / 8) (Link (k % 8)))) (facet : f ≡ match (k / 8)) (h : i < mostAround) where
+    more : List ℕ
+    more = set (g .cells) i (k / 8)
+
+    size : length more ≡ mostAround
+    unfolding more
+    size = length-set (g .cells) i (k / 8) ∙ g .long
+
+    was : Copied (halvesCut match (take i more)) o n o′
+    unfolding more
+    was = rw (take-set-le i (g .cells) i (k / 8) (omega arith)) (g .wrote)
+
+    cell : k / 8 ≡ getD more i 0
+    unfolding more
+    cell = sym (getD-set-same (g .cells) i (k / 8) 0 (omega (arith, g .long)))
+
+    pub going-more : (o″ : List ℕ) (x : ℕ) → f < noFacet → x ≡ halfOf (cut (k / 8)) (f % 8) → o″ ≡ set o′ n x → Going match caps s v o o″ (n + 1) (i + 1) y′
+    unfolding more
+    going-more o″ x low half put = record {
+      room = g .room;
+      cells = more;
+      long = size;
+      fits = g .fits;
+      walking = walking-step caps s v w p l (g .room) (g .cells) i y k y′ (g .walking) e on;
+      wrote = write-more match more o i n o′ (k / 8) f was (omega (arith, size)) cell facet o″ x low half put;
+    }
+
+    pub going-none : noFacet ≤ f → Going match caps s v o o′ n (i + 1) y′
+    unfolding more
+    going-none high = record {
+      room = g .room;
+      cells = more;
+      long = size;
+      fits = g .fits;
+      walking = walking-step caps s v w p l (g .room) (g .cells) i y k y′ (g .walking) e on;
+      wrote = write-none match more o i n o′ (k / 8) f was (omega (arith, size)) cell facet high;
+    }
+
+  module _ (o′ : List ℕ) (n i y : ℕ) (g : Going match caps s v o o′ n i y) (few : i ≤ mostAround) where
+    whole : Walked (s .chain v) (caps .cells) (g .room) (g .cells) i → Copied (halvesCut match (chainOf caps s v)) o n o′
+    unfolding chainOf
+    whole x =
+        let front : take i (g .cells) ≡ select (s .chain v) (caps .cells) =
+        rw (x .wrote (omega (arith, g .fits))) (take-at (select (s .chain v) (caps .cells)) _ i (sym (x .count))) in
+        rw front at (g .wrote)
+
+    pub going-end : y ≡ 0 → Copied (halvesCut match (chainOf caps s v)) o n o′
+    going-end e = whole (walking-end caps s v (g .room) (g .cells) i y (g .walking) e)
+
+    pub going-full : length (chainOf caps s v) ≤ i → Copied (halvesCut match (chainOf caps s v)) o n o′
+    going-full full = whole (walking-full caps s v (g .room) (g .cells) i y (g .walking) full)
+
+-- along the chain of the first mark the sharers of the set are written
+pub shared-list : (w : List ℕ) (caps : Caps) (rows : List (List (List ℕ))) (set o : List ℕ) (v n : ℕ) (o′ : List ℕ) → v ≡ getD set 0 0
+    → (s : State) → Pic w caps s → Ready caps s → SetInside caps rows set
+    → Copied (halvesCut (λ c. matchIn w caps rows c set) (chainOf caps s v)) o n o′ → Copied (sharers (mapWith caps s) set) o n o′
 unfolding chainOf mapWith
-shared-list w caps rows set zeros cells o v count n o′ e g h was s p r q =
-    let list = g .list s p (ready-linked caps s r) (rw e (q .mark)) in
-    let front : take count cells ≡ chainOf caps s v = rw (list .1 h) (take-at _ _ count (sym (list .0))) in
-    let along : halvesCut (λ c. matchIn w caps rows c set) (take count cells) ≡ sharers (mapWith caps s) set =
-    rw front
-    (halves-uncut _ (matchAt (mapWith caps s) set) _
+shared-list w caps rows set o v n o′ e s p r q was =
+    let along : halvesCut (λ c. matchIn w caps rows c set) (chainOf caps s v) ≡ sharers (mapWith caps s) set =
+    halves-uncut _ (matchAt (mapWith caps s) set) _
     (λ c there.
     let below : c < caps .cells = select-out (s .chain v) (caps .cells) c there .0 in
     (omega (arith, p .cells), rw (q .types) (match-read w caps s p c below (r .sound .fitting c) set)))
-    ∙ rw e (sym (sharers-along caps rows set s r q))) in
+    ∙ rw e (sym (sharers-along caps rows set s r q)) in
     rw along at was
 
 -- the same answer by another name of the set

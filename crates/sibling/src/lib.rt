@@ -6,14 +6,16 @@
 // specs/Shared.antt says; the way is that of crates/map/specs/Ways.antt; on any memory nothing beyond the room changes. What a caller should know: the set's first mark leads to its cells, so it must be a mark of the mesh; the
 // table is handed down, so that it is copied once a call; 128 words hold any answer.
 ghost use mathlib.Core.Path.{_≡_};
+ghost use mathlib.Core.List.{[], _∷_};
 ghost use Rattle.lists.specs.Lists.{same};
 ghost use Rattle.map.specs.Ways.{turned, rotation, runs, direction};
 ghost use Rattle.picture.specs.Step.{Step};
-ghost use Rattle.facet.specs.Facet.{facetIn};
+ghost use Rattle.facet.specs.Facet.{setIn, facetIn};
 ghost use Rattle.sibling.specs.Shared.{Shared, MayMend, mended};
-ghost use Rattle.sibling.specs.Ways.{turnedPlace, endPlace, heading, facingIn};
-use chain::gather;
+ghost use Rattle.sibling.specs.Ways.{turnedPlace, endPlace, heading, facingIn, Edges};
 use facet::copy_facet;
+use facet::facet_set;
+use facet::marks_at;
 use facet::matching;
 use map::Way;
 use numbers::Caps;
@@ -28,6 +30,10 @@ use picture::put_sibling;
 use shapes::FacetTable;
 use shapes::MOST_CORNERS;
 use shapes::NO_FACET;
+use shapes::column;
+use store::code_of;
+use store::first_of;
+use store::link_of;
 use words::part;
 use words::put;
 use words::word;
@@ -36,12 +42,16 @@ use words::word;
 pub fn sharers(w: &[u32], caps: Caps, rows: &FacetTable, set: &[u32], out: &mut [u32]) -> u32
     ensures { λ r. ⌜ Shared (now (w .entry)) caps (now (rows .entry)) (now (set .entry)) (now (out .entry)) r (now (out .exit)) ⌝ }
 {
-    let mut cells = [0u32; MOST_AROUND as usize];
-    let count = gather(w, caps, Mark(word(set, 0)), &mut cells);
     let mut n: u32 = 0;
     let mut i: u32 = 0;
-    while i < count {
-        let c = Cell(word(&cells, i as usize));
+    let mut link = first_of(w, caps, Mark(word(set, 0)));
+    while i < MOST_AROUND {
+        if link == 0 {
+            return n;
+        }
+        let at = link - 1;
+        let c = Cell(at / 8);
+        link = link_of(w, caps, c, at % 8);
         let f = matching(w, caps, rows, c, set);
         if f < NO_FACET {
             let half = half_of(c, f);
@@ -146,6 +156,72 @@ pub fn direction(f: u32, a: &[u32], g: u32, b: &[u32]) -> Way
     run_way(rotates(a, b, false), rotates(a, b, true))
 }
 
+// Whether two marks are two others, in their order.
+fn same_pair(a: u32, b: u32, c: u32, d: u32) -> bool
+    ensures { λ r. ⌜ r ≡ same (a ∷ b ∷ []) (c ∷ d ∷ []) ⌝ }
+{
+    if a != c {
+        return false;
+    }
+    b == d
+}
+
+// Which way two edges run, each given by its type and facet and the cell's marks: two marks held to two.
+fn edge_beside(
+    rows: &FacetTable,
+    t: u32,
+    f: u32,
+    marks: &[u32],
+    u: u32,
+    g: u32,
+    others: &[u32],
+) -> Way
+    ensures { λ r. ⌜ Edges (now (rows .entry)) t f (now (marks .entry)) u g (now (others .entry)) r ⌝ }
+{
+    let a = word(marks, column(rows, t, f, 1) as usize);
+    let b = word(marks, column(rows, t, f, 2) as usize);
+    let c = word(others, column(rows, u, g, 1) as usize);
+    let d = word(others, column(rows, u, g, 2) as usize);
+    run_way(same_pair(a, b, c, d), same_pair(a, b, d, c))
+}
+
+// Which way two facets run, by copies of their marks.
+fn face_beside(
+    rows: &FacetTable,
+    t: u32,
+    f: u32,
+    marks: &[u32],
+    u: u32,
+    g: u32,
+    others: &[u32],
+) -> Way
+    ensures { λ r. ⌜ r ≡ direction f (setIn (now (rows .entry)) t f (now (marks .entry))) g (setIn (now (rows .entry)) u g (now (others .entry))) ⌝ }
+{
+    let mut first = [0u32; MOST_CORNERS as usize];
+    let n = facet_set(rows, t, f, marks, &mut first);
+    let mut second = [0u32; MOST_CORNERS as usize];
+    let k = facet_set(rows, u, g, others, &mut second);
+    direction(
+        f,
+        part(&first, 0, n as usize),
+        g,
+        part(&second, 0, k as usize),
+    )
+}
+
+// Which way two facets run.
+fn beside(rows: &FacetTable, t: u32, f: u32, marks: &[u32], u: u32, g: u32, others: &[u32]) -> Way
+    ensures { λ r. ⌜ r ≡ direction f (setIn (now (rows .entry)) t f (now (marks .entry))) g (setIn (now (rows .entry)) u g (now (others .entry))) ⌝ }
+{
+    if column(rows, t, f, 0) != 2 {
+        return face_beside(rows, t, f, marks, u, g, others);
+    }
+    if column(rows, u, g, 0) != 2 {
+        return face_beside(rows, t, f, marks, u, g, others);
+    }
+    edge_beside(rows, t, f, marks, u, g, others)
+}
+
 // Which way the half-facet x runs beside h; lone where they are one.
 pub fn facing(w: &[u32], caps: Caps, rows: &FacetTable, h: Half, x: Half) -> Way
     ensures { λ r. ⌜ r ≡ facingIn (now (w .entry)) caps (now (rows .entry)) (h .0) (x .0) ⌝ }
@@ -153,17 +229,16 @@ pub fn facing(w: &[u32], caps: Caps, rows: &FacetTable, h: Half, x: Half) -> Way
     if h.0 == x.0 {
         return Way::Lone;
     }
-    let f = facet_of(h);
-    let g = facet_of(x);
-    let mut marks = [0u32; MOST_CORNERS as usize];
-    let n = copy_facet(w, caps, rows, cell_of(h), f, &mut marks);
-    let mut others = [0u32; MOST_CORNERS as usize];
-    let k = copy_facet(w, caps, rows, cell_of(x), g, &mut others);
-    direction(
-        f,
-        part(&marks, 0, n as usize),
-        g,
-        part(&others, 0, k as usize),
+    let c = cell_of(h);
+    let d = cell_of(x);
+    beside(
+        rows,
+        code_of(w, caps, c),
+        facet_of(h),
+        marks_at(w, caps, c),
+        code_of(w, caps, d),
+        facet_of(x),
+        marks_at(w, caps, d),
     )
 }
 
