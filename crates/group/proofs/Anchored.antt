@@ -9,7 +9,7 @@ use native.Mathlib.Nat.{not-suc-le-zero}
 use native.Mathlib.Omega.{arith}
 use borrow.Author.Tests.{eq-eqb, eqb-true, lt-ltb, le-ltb}
 use lib.Dec.{eqb}
-use lib.ListN.{length, getD, drop, List·getD-eq-default, List·getD-append}
+use lib.ListN.{length, getD, drop, List·getD-append}
 use Rattle.lists.specs.Lists.{has, select, first}
 use Rattle.lists.specs.Ascending.{Ascending}
 use Rattle.lists.specs.Filled.{Copied}
@@ -22,34 +22,25 @@ use Rattle.lists.proofs.Order.{select-ascends, first-least, asc-same}
 use Rattle.numbers.specs.Half.{cut, halfOf}
 use Rattle.numbers.specs.declared.Caps.{Caps}
 use Rattle.map.specs.Cells.{Map, facetsAt}
-use Rattle.map.specs.Siblings.{isHalf, Half, marksOf, sibling, border}
+use Rattle.map.specs.Siblings.{isHalf, Half, marksOf, border}
 use Rattle.map.specs.Stars.{star, linked, group, halvesAt, anchor, anchors}
 use Rattle.laws.proofs.Anchors.{half-facet, star-has, group-in-star, halves-has, has-halves, anchor-border, anchor-least, anchor-half, anchors-of, anchors-listed, anchors-ascend}
-use Rattle.laws.proofs.Cycles.{border-self, self-border}
 use Rattle.laws.proofs.Halves.{half-live}
 use Rattle.picture.specs.State.{State, mapWith, next}
 use Rattle.picture.specs.Picture.{Pic}
 use Rattle.facet.specs.Facet.{facetIn}
 use Rattle.lists.proofs.Mapped.{map-ascends}
-use Rattle.laws.proofs.Facets.{facets-count}
 use Rattle.facet.proofs.Read.{facet-read}
 use Rattle.star.specs.Listed.{Gives, Reads, AtMark}
+use Rattle.border.specs.Borders.{borderIn, wantedIn}
 use Rattle.group.specs.Group.{Around}
 use Rattle.group.specs.Labels.{linkIn, Labelled}
-use Rattle.group.specs.Places.{borderIn, wantedIn, chosenIn, seekIn, placeIn, anchorsIn}
-use Rattle.group.proofs.Round.{sib-is, linked-read}
+use Rattle.group.specs.Places.{chosenIn, seekIn, placeIn, anchorsIn}
+use Rattle.border.proofs.Words.{facet-there, border-read}
+use Rattle.group.proofs.Round.{linked-read}
 use Rattle.group.proofs.Listing.{list-size}
 use Rattle.group.proofs.Grouped.{Starred, starred, Grouped, grouped, place-one}
 use Rattle.numbers.specs.Sizes.{mostAround}
-
--- a facet that holds a mark is a facet of the cell
-facet-there : (m : Map) (c f v : ℕ) → has v (getD (facetsAt m c) f []) ≡ true → f < length (facetsAt m c)
-unfolding has
-facet-there m c f v e = go (decLt f (length (facetsAt m c)))
-  where
-    go : Dec (f < length (facetsAt m c)) → f < length (facetsAt m c)
-    go (yes h) = h
-    go (no g) = absurd (clash (sym (ap (has v) (List·getD-eq-default (facetsAt m c) [] (omega arith))) ∙ e) refl)
 
 -- a cell of a star is a cell of the mesh
 star-below : (caps : Caps) (s : State) (d v c : ℕ) → has c (star (mapWith caps s) d v) ≡ true → c < caps .cells
@@ -91,13 +82,7 @@ module _ (w : List ℕ) (caps : Caps) (rows : List (List (List ℕ))) (d v : ℕ
         (r .0, half-live m (a .settled .ready .sound) (halfAt cells x) (r .1), rw (r .2) e)
 
     border-here : borderIn w caps (getD cells (x / 8) 0) (x % 8) ≡ border m (halfAt cells x)
-    unfolding borderIn halfOf
-    border-here =
-        let local : x % 8 % 8 ≡ x % 8 = omega arith in
-        let uncut : cut (getD cells (x / 8) 0) ≡ getD cells (x / 8) 0 = omega (arith, cell-below (x / 8) h, p .cells) in
-        rw (local, uncut, sib-is w caps s p (a .settled) (halfAt cells x) (half-here .1))
-        (same-test _ _ (λ q. self-border m (halfAt cells x) (half-here .1) (eqb-true _ _ q))
-        (λ b. eq-eqb _ _ (border-self m (halfAt cells x) (half-here .1) b)))
+    border-here = border-read w caps s p (a .settled) (getD cells (x / 8) 0) (x % 8) (cell-below (x / 8) h) (omega arith) (half-here .1)
 
   module _ (lab : List ℕ) (gr : Grouped (mapWith caps s) d v cells n lab) (i : ℕ) (hi : i < n) where
     abbrev g : List ℕ

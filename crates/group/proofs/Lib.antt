@@ -7,3 +7,4 @@ pub mod Recalling
 pub mod Listing
 pub mod Grouped
 pub mod Anchored
+pub mod Deciding

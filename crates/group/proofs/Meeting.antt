@@ -15,6 +15,7 @@ use Rattle.numbers.specs.Half.{cut, halfOf}
 use Rattle.shapes.specs.Shapes.{facetCount}
 use Rattle.numbers.specs.declared.Caps.{Caps}
 use Rattle.store.specs.Slots.{codeIn}
+use Rattle.border.proofs.Words.{not-false}
 use Rattle.group.specs.Labels.{anyBelow, sibAt, meetsIn, metIn, joinsIn, linkedIn}
 use Rattle.numbers.specs.Sizes.{mostAround}
 
@@ -79,10 +80,6 @@ module _ (w : List ℕ) (caps : Caps) (start b : ℕ) where
 
       pub met-more : (h ≡ start → ⊥) → (h / 8 ≡ b → ⊥) → (h′ : ℕ) → h′ ≡ sibAt w caps h → meetsIn w caps start b (left - 1) h′ ≡ metIn w caps start b
       met-more f g h′ e = ap (meetsIn w caps start b (left - 1)) e ∙ (sym (meets-more (left - 1) h f g) ∙ here)
-
-pub not-false : (b : Bool) → not b ≡ false → b ≡ true
-not-false true e = refl
-not-false false e = absurd (clash refl e)
 
 -- from a facet of a cell
 module _ (w : List ℕ) (caps : Caps) (rows : List (List (List ℕ))) (v a f b h : ℕ) (half : h ≡ halfOf (cut a) (f % 8)) (met : Bool)

@@ -11,7 +11,8 @@ use lib.Seq.{getD-set-same, getD-set-other}
 use Rattle.lists.specs.Lists.{has, select, first}
 use Rattle.numbers.specs.declared.Caps.{Caps}
 use Rattle.facet.specs.Facet.{facetIn}
-use Rattle.group.specs.Places.{wantedIn, chosenIn, seekIn, placeIn, Remembered, Recalled}
+use Rattle.border.specs.Borders.{wantedIn}
+use Rattle.group.specs.Places.{chosenIn, seekIn, placeIn, Remembered, Recalled}
 
 module _ (w : List ℕ) (caps : Caps) (rows : List (List (List ℕ))) (v : ℕ) (cells lab : List ℕ) (end : ℕ) where
   -- what is sought for a label

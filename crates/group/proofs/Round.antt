@@ -1,6 +1,6 @@
 -- On the picture of a settled state the sibling words lead from a facet of a cell to the cells that share it, and to no other.
-use mathlib.Core.Path.{_≡_, refl, sym, ap, _∙_}
-use mathlib.Core.Bool.{Bool, true, _&&_}
+use mathlib.Core.Path.{_≡_, sym, ap, _∙_}
+use mathlib.Core.Bool.{true, _&&_}
 use mathlib.Core.List.{List, [], map}
 use Prim.Native.Nat.{ℕ, zero, suc, _+_, _*_, _/_, _%_, _<_, _≤_}
 use native.Mathlib.Decide.{ℕ-discrete}
@@ -8,19 +8,18 @@ use native.Mathlib.Omega.{arith}
 use borrow.Author.Tests.{ltb-true}
 use lib.Dec.{ltb}
 use lib.ListN.{length, getD, length-map, List·getD-map}
-use Rattle.lists.specs.Lists.{any, all, has, sameSet, steps}
+use Rattle.lists.specs.Lists.{has, sameSet, steps}
 use Rattle.lists.proofs.Bools.{clash, same-test, and-left, and-right, and-both}
-use Rattle.lists.proofs.Members.{any-at, at-any, all-at, all-get}
 use Rattle.lists.proofs.Select.{select-in, select-out}
 use Rattle.lists.proofs.Order.{select-ascends}
 use Rattle.lists.proofs.Keep.{keep-size}
 use Rattle.numbers.specs.Half.{cut, halfOf}
-use Rattle.shapes.specs.Shapes.{Shape, noShape, shapes, shape, facetCount}
+use Rattle.shapes.specs.Shapes.{shape, facetCount}
 use Rattle.shapes.proofs.Facts.{facts}
 use Rattle.numbers.specs.declared.Caps.{Caps}
 use Rattle.store.specs.Slots.{codeIn}
 use Rattle.map.specs.Cells.{Map, holds, facetsAt}
-use Rattle.map.specs.Siblings.{isHalf, Half, marksOf, siblings, sibling, walk}
+use Rattle.map.specs.Siblings.{isHalf, Half, marksOf, siblings, walk}
 use Rattle.map.specs.Sound.{Sound}
 use Rattle.map.specs.Stars.{holders, linked}
 use Rattle.laws.proofs.Anchors.{half-facet, linked-facets, facets-linked}
@@ -35,11 +34,12 @@ use Rattle.facet.proofs.Read.{facet-read}
 use Rattle.sibling.specs.Halves.{halvesOf}
 use Rattle.sibling.proofs.Along.{along}
 use Rattle.laws.proofs.Facets.{facets-count}
-use Rattle.picture.proofs.Record.{code-read, sib-read}
+use Rattle.picture.proofs.Record.{code-read}
 use Rattle.group.specs.Labels.{sibAt, meetsIn, metIn, joinsIn, linkedIn}
+use Rattle.border.proofs.Words.{sib-is}
 use Rattle.group.proofs.Meeting.{below-found, below-out, meets-none, meets-back, meets-here, meets-more, meets-start}
 use Rattle.numbers.specs.Sizes.{mostAround}
-use Rattle.shapes.specs.Sizes.{noFacet, mostFacets}
+use Rattle.shapes.specs.Sizes.{noFacet}
 
 -- a half-facet has a mark
 marks-some : (m : Map) (h : ℕ) → Half m h → 0 < length (marksOf m h)
@@ -72,18 +72,11 @@ module _ (w : List ℕ) (caps : Caps) (s : State) (p : Pic w caps s) (t : Settle
   abbrev m : Map
   m = mapWith caps s
 
-  pub sib-is : (h : ℕ) → Half m h → sibAt w caps h ≡ sibling m h
-  unfolding isHalf mapWith
-  sib-is h x =
-      let few : h % 8 < mostFacets = omega (arith, ltb-true (h % 8) (length (facetsAt m (h / 8))) (x .facet), facets-count m (h / 8), facts (m .at (h / 8) .code) .facets) in
-      let below : h / 8 < caps .cells = omega (arith, x .below) in
-      sib-read w caps s p h below few ∙ t .siblings h (x .facet)
-
   -- from a half-facet
   module _ (start b : ℕ) (x : Half (mapWith caps s) start) where
     step-is : (k : ℕ) → sibAt w caps (walk m k start) ≡ walk m (suc k) start
     unfolding walk steps
-    step-is k = sib-is (walk m k start) (siblings-live m start (walk m k start) (walk-has m start x k))
+    step-is k = sib-is w caps s p t (walk m k start) (siblings-live m start (walk m k start) (walk-has m start x k))
 
     -- what is met is a step of the walk
     met-walk : (k i : ℕ) → meetsIn w caps start b k (walk m i start) ≡ true → (j : ℕ) × (walk m j start / 8 ≡ b)
@@ -116,7 +109,7 @@ module _ (w : List ℕ) (caps : Caps) (s : State) (p : Pic w caps s) (t : Settle
 
     first-step : sibAt w caps start ≡ walk m 1 start
     unfolding walk steps
-    first-step = sib-is start x
+    first-step = sib-is w caps s p t start x
 
     pub met-there : metIn w caps start b ≡ true → (h : ℕ) × (h / 8 ≡ b) × Half m h × (sameSet (marksOf m start) (marksOf m h) ≡ true)
     unfolding siblings

@@ -1,35 +1,19 @@
 -- The half-facets of a group at a mark, place by place.
-use mathlib.Core.Path.{_≡_, refl, sym}
+use mathlib.Core.Path.{_≡_, sym}
 use mathlib.Core.Bool.{Bool, true, false, not}
 use mathlib.Core.List.{List}
-use Prim.Native.Nat.{ℕ, _+_, _/_, _%_, _<_, _≤_}
+use Prim.Native.Nat.{ℕ, _/_, _%_, _<_, _≤_}
 use borrow.Author.Tests.{eq-eqb, ne-eqb, lt-ltb, le-ltb}
-use lib.Dec.{eqb}
 use lib.ListN.{getD}
 use Rattle.lists.specs.Lists.{has, first}
-use Rattle.lists.proofs.Bools.{clash, not-false-true}
+use Rattle.lists.proofs.Bools.{not-false-true}
 use Rattle.lists.proofs.Order.{first-select}
 use Rattle.lists.proofs.Counts.{select-empty}
-use Rattle.numbers.specs.Half.{cut, halfOf}
 use Rattle.numbers.specs.declared.Caps.{Caps}
 use Rattle.facet.specs.Facet.{facetIn}
-use Rattle.group.specs.Labels.{sibAt}
-use Rattle.group.proofs.Meeting.{not-false}
-use Rattle.group.specs.Places.{borderIn, wantedIn, chosenIn, seekIn, placeIn}
-
-pub alone-is : (w : List ℕ) (caps : Caps) (c f x h : ℕ) → x ≡ sibAt w caps h → h ≡ halfOf (cut c) (f % 8)
-    → eqb x h ≡ borderIn w caps c f
-unfolding borderIn
-alone-is w caps c f x h e g = rw (e, g)
-
-module _ (w : List ℕ) (caps : Caps) (c f : ℕ) (only : Bool) where
-  pub wanted-any : not only ≡ true → true ≡ wantedIn w caps c f only
-  unfolding wantedIn
-  wanted-any e = rw e
-
-  pub wanted-border : (r : Bool) → not only ≡ false → r ≡ borderIn w caps c f → r ≡ wantedIn w caps c f only
-  unfolding wantedIn
-  wanted-border r e q = rw e q
+use Rattle.border.specs.Borders.{wantedIn}
+use Rattle.border.proofs.Words.{not-false}
+use Rattle.group.specs.Places.{chosenIn, seekIn, placeIn}
 
 module _ (w : List ℕ) (caps : Caps) (rows : List (List (List ℕ))) (v : ℕ) (cells lab : List ℕ) (i : ℕ) (only : Bool) (x : ℕ) where
   module _ (one other : ℕ) (first-label : one ≡ getD lab (x / 8) 0) (second-label : other ≡ getD lab i 0) where

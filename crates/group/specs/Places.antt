@@ -1,6 +1,6 @@
 -- The anchor of a place's group, as a place: 8 times the place of its cell and its facet.
 use mathlib.Core.Path.{_≡_}
-use mathlib.Core.Bool.{Bool, true, false, cond, not, _&&_, _||_}
+use mathlib.Core.Bool.{Bool, true, false, cond, _&&_}
 use mathlib.Core.List.{List, map}
 use Prim.Native.Nat.{ℕ, _+_, _/_, _%_, _<_}
 use lib.Dec.{eqb, ltb}
@@ -9,15 +9,7 @@ use Rattle.lists.specs.Lists.{has, select, first}
 use Rattle.numbers.specs.Half.{cut, halfOf}
 use Rattle.numbers.specs.declared.Caps.{Caps}
 use Rattle.facet.specs.Facet.{facetIn}
-use Rattle.group.specs.Labels.{sibAt}
-
--- the stored sibling of a cell's facet is that half-facet
-unfoldable pub borderIn : List ℕ → Caps → ℕ → ℕ → Bool
-borderIn w caps c f = eqb (sibAt w caps (halfOf (cut c) (f % 8))) (halfOf (cut c) (f % 8))
-
--- the half-facet is a border, where only those are asked for
-unfoldable pub wantedIn : List ℕ → Caps → ℕ → ℕ → Bool → Bool
-wantedIn w caps c f only = not only || borderIn w caps c f
+use Rattle.border.specs.Borders.{wantedIn}
 
 -- the half-facet at a place is in the group of place i, is wanted and holds v
 unfoldable pub chosenIn : List ℕ → Caps → List (List (List ℕ)) → ℕ → List ℕ → List ℕ → ℕ → Bool → ℕ → Bool

@@ -2,10 +2,11 @@
 //
 // What is here: `anchors_of` lists the anchors of a mark in a dimension, `first_anchor_of` gives the first of them as number + 1.
 // Both are total on any memory. What is proved: on the picture of a settled state each answer is the definition's (specs/Group.antt
-// says what of a state is asked). How: each cell of the star has a label; two cells that share a facet with the mark get one label, and the stored
-// siblings of the one cell's facets tell it, for they lead to each cell with a facet of the same marks; then the anchor of each
-// label's cells is sought, once. What a caller should know: each pair of cells is looked at once at most; 128 words hold any answer;
-// the table is handed down.
+// says what of a state is asked). How the anchors: each cell of the star has a label; two cells that share a facet with the mark get one
+// label, and the stored siblings of the one cell's facets tell it, for they lead to each cell with a facet of the same marks; then the
+// anchor of each label's cells is sought, once. How the first: it is the least border at the mark or the least half-facet at it of a group
+// without one (crates/border), so a walk along the chain tells it, and walks from cell to cell that meet a border; labels are the last
+// resort. What a caller should know: each pair of cells is looked at once at most; 128 words hold any answer; the table is handed down.
 ghost use mathlib.Core.Path.{_≡_};
 ghost use Prim.Native.Nat.{_+_, _<_};
 ghost use Rattle.lists.specs.Filled.{Copied};
@@ -14,8 +15,11 @@ ghost use Rattle.picture.specs.State.{next};
 ghost use Rattle.star.specs.Listed.{Gives, Reads};
 ghost use Rattle.group.specs.Group.{Around};
 ghost use Rattle.group.specs.Labels.{metIn, joinsIn, linkedIn, linkIn, Numbered, Relabelled, Pairs, Merged, Labelled};
-ghost use Rattle.group.specs.Places.{borderIn, wantedIn, chosenIn, seekIn, placeIn, Recalled, anchorsIn};
+ghost use Rattle.group.specs.Places.{chosenIn, seekIn, placeIn, Recalled, anchorsIn};
 ghost use Rattle.numbers.specs.Sizes.{mostAround};
+use border::all_out;
+use border::ends_of;
+use border::wanted;
 use facet::facet_has;
 use numbers::Caps;
 use numbers::Cell;
@@ -154,24 +158,6 @@ fn labels(w: &[u32], caps: Caps, rows: &FacetTable, v: Mark, cells: &[u32], n: u
         merge_row(w, caps, rows, v, cells, n, a, lab);
         a += 1;
     }
-}
-
-// Whether a half-facet is its own sibling, by its word.
-fn alone(w: &[u32], caps: Caps, c: Cell, f: u32) -> bool
-    ensures { λ r. ⌜ r ≡ borderIn (now (w .entry)) caps (c .0) f ⌝ }
-{
-    let half = half_of(c, f);
-    sibling_of(w, caps, half).0 == half.0
-}
-
-// Whether the half-facet is a border, where only those are asked for.
-fn wanted(w: &[u32], caps: Caps, c: Cell, f: u32, only: bool) -> bool
-    ensures { λ r. ⌜ r ≡ wantedIn (now (w .entry)) caps (c .0) f only ⌝ }
-{
-    if !only {
-        return true;
-    }
-    alone(w, caps, c, f)
 }
 
 // Whether the half-facet at a place is of the group of place i, is wanted and holds v.
@@ -316,8 +302,8 @@ pub fn anchors_of(w: &[u32], caps: Caps, rows: &FacetTable, d: u32, v: Mark, out
     list(w, caps, rows, v, &cells, &lab, n, 8 * n, out)
 }
 
-// The first anchor of a mark in a dimension as number + 1; 0 for none.
-pub fn first_anchor_of(w: &[u32], caps: Caps, rows: &FacetTable, d: u32, v: Mark) -> u32
+// The first anchor of a mark in a dimension as number + 1, by the groups; 0 for none.
+fn first_by_groups(w: &[u32], caps: Caps, rows: &FacetTable, d: u32, v: Mark) -> u32
     ensures { λ r. ⌜ Reads (now (w .entry)) caps (Around caps (now (rows .entry)) (v .0)) (λ m. next (anchors m d (v .0))) r ⌝ }
 {
     let mut found = [0u32; MOST_AROUND as usize];
@@ -328,4 +314,20 @@ pub fn first_anchor_of(w: &[u32], caps: Caps, rows: &FacetTable, d: u32, v: Mark
     // a larger number is no half-facet's
     let h = word(&found, 0);
     if h < 524288 { h + 1 } else { 0 }
+}
+
+// The first anchor of a mark in a dimension as number + 1; 0 for none. No border at the mark: the first half-facet at it. From each cell before
+// that of the first border a walk meets one: the first border.
+pub fn first_anchor_of(w: &[u32], caps: Caps, rows: &FacetTable, d: u32, v: Mark) -> u32
+    ensures { λ r. ⌜ Reads (now (w .entry)) caps (Around caps (now (rows .entry)) (v .0)) (λ m. next (anchors m d (v .0))) r ⌝ }
+{
+    let e = ends_of(w, caps, d, v);
+    let border = e.border;
+    if border == 0 {
+        return e.any;
+    }
+    if all_out(w, caps, d, v, Cell((border - 1) / 8)) {
+        return border;
+    }
+    first_by_groups(w, caps, rows, d, v)
 }

@@ -106,7 +106,7 @@ module _ (m m′ : Map) (c : ℕ) (a : Apart m m′ c) where
   half-other h n = (rw (a .other (h / 8) n), rw (a .other (h / 8) n))
 
   -- tests that agree select the same half-facets
-  halves-listed : (p q : ℕ → Bool) → ((h : ℕ) → p h ≡ q h) → select p (8 * m′ .caps .cells) ≡ select q (8 * m .caps .cells)
+  pub halves-listed : (p q : ℕ → Bool) → ((h : ℕ) → p h ≡ q h) → select p (8 * m′ .caps .cells) ≡ select q (8 * m .caps .cells)
   halves-listed p q f = rw (a .caps) (select-same p q (8 * m .caps .cells) (λ h l. f h))
 
   -- a test that no facet of the cell passes, in neither map, is passed by the same half-facets

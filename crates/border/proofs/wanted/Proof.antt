@@ -1,8 +1,8 @@
--- `group::wanted` meets its contract.
-use Rattle.group.proofs.Seeking.{wanted-any, wanted-border}
+-- `border::wanted` meets its contract.
+use Rattle.border.proofs.Words.{wanted-any, wanted-border}
 use borrow.Author.Needs.{needs}
-use Rattle.group.proofs.wanted.Statement.{statement}
-use Rattle.group.proofs.wanted.Tie as tie
+use Rattle.border.proofs.wanted.Statement.{statement}
+use Rattle.border.proofs.wanted.Tie as tie
 
 returns : tie.Need-returns
 returns c = wanted-any _ _ _ _ _ (c .if1 .taken)

@@ -1,8 +1,8 @@
--- `group::alone` meets its contract.
-use Rattle.group.proofs.Seeking.{alone-is}
+-- `border::alone` meets its contract.
+use Rattle.border.proofs.Words.{alone-is}
 use borrow.Author.Needs.{needs}
-use Rattle.group.proofs.alone.Statement.{statement}
-use Rattle.group.proofs.alone.Tie as tie
+use Rattle.border.proofs.alone.Statement.{statement}
+use Rattle.border.proofs.alone.Tie as tie
 
 returns : tie.Need-returns
 returns c = alone-is _ _ _ _ _ _ (c .before .before .sibling-of .ensures) (c .before .before .before .half-of .ensures)
