@@ -14,13 +14,15 @@ use Rattle.lists.proofs.Members.{at-any}
 use Rattle.lists.proofs.Sets.{same-refl}
 use Rattle.shapes.specs.Sizes.{mostFacets, mostCode}
 use Rattle.shapes.proofs.Facts.{facts}
+use Rattle.shapes.specs.Shapes as S
 use Rattle.shapes.specs.Shapes.{shape}
 use Rattle.shapes.specs.Table.{table}
 use Rattle.numbers.specs.declared.Caps.{Caps}
-use Rattle.map.specs.Cells.{Body, Map, holds, facetsAt, cellsOf}
+use Rattle.map.specs.Cells.{Body, Map, noCell, dimensionAt, holds, facetsAt, cellsOf}
 use Rattle.map.specs.Siblings.{isHalf, marksOf, sibling}
 use Rattle.map.specs.declared.Way.the-variants.{Lone}
 use Rattle.map.specs.Ways.{wayNumber, way}
+use Rattle.map.specs.Stars.{anchors}
 use Rattle.map.specs.Sound.{Sound, TwoSolids}
 use Rattle.laws.proofs.Local.{Apart, Free, OneMore, half-other, sibling-other, anchors-free, more-free, apart-back}
 use Rattle.laws.proofs.Counted.{more-type-other}
@@ -32,13 +34,17 @@ use Rattle.picture.specs.Changes.{withCount}
 use Rattle.picture.proofs.Alike.{retold, pic-retold, state-same}
 use Rattle.laws.proofs.Facets.{facets-count}
 use Rattle.map.specs.Cells.{setsOf}
-use Rattle.mend.specs.Settle.{among, MaySettle, settled}
+use Rattle.mend.specs.Settle.{among, moved, MaySettle, settled}
 use Rattle.edit.specs.Edit.{withLinks}
+use Rattle.edit.proofs.Aside.{dimension-most, anchors-aside}
 
 -- from m to m′ a cell of type t on these marks, under the number c, comes or goes
 pub record Turn (m m′ : Map) (c t : ℕ) (marks : List ℕ) : Type 0 where
+  pub was : Sound m
   pub sound : Sound m′
   pub apart : Apart m m′ c
+  pub typed : (1 ≤ shape t .dimension) × (shape t .dimension ≤ 3)
+  pub aside : (d : ℕ) → 1 ≤ d → (shape t .dimension ≡ d → ⊥) → (dimensionAt m c ≡ d → ⊥) × (dimensionAt m′ c ≡ d → ⊥)
   pub count : length marks ≡ shape t .marks
   pub inside : (v : ℕ) → has v marks ≡ true → v < m′ .caps .marks
   pub free : (v : ℕ) → has v marks ≡ false → Free m m′ c v
@@ -61,10 +67,23 @@ module _ (m m′ : Map) (c : ℕ) (x : Body) (r : OneMore m m′ c x) where
   unfolding holds
   more-inside s v e = s .inside v c (rw (r .after) e)
 
+  -- in another dimension than its own neither map has a cell there
+  more-aside : (d : ℕ) → 1 ≤ d → (shape (x .code) .dimension ≡ d → ⊥) → (dimensionAt m c ≡ d → ⊥) × (dimensionAt m′ c ≡ d → ⊥)
+  unfolding dimensionAt noCell S.shape S.shapes S.noShape
+  more-aside d l n =
+      let none : dimensionAt m c ≡ 0 = rw (r .before) in
+      (λ e. absurd (omega (arith, none, e)), λ e. n (rw (r .after) at e))
+
+  more-typed : 0 < shape (x .code) .dimension → (1 ≤ shape (x .code) .dimension) × (shape (x .code) .dimension ≤ 3)
+  more-typed l = (omega arith, dimension-most (x .code) l)
+
   -- a cell comes
-  pub turn-in : Sound m′ → Turn m m′ c (x .code) (x .marks)
-  turn-in s = record {
+  pub turn-in : Sound m → Sound m′ → 0 < shape (x .code) .dimension → Turn m m′ c (x .code) (x .marks)
+  turn-in s₀ s l = record {
+    was = s₀;
     sound = s;
+    typed = more-typed l;
+    aside = more-aside;
     apart = r .apart;
     count = more-count;
     inside = more-inside s;
@@ -74,9 +93,12 @@ module _ (m m′ : Map) (c : ℕ) (x : Body) (r : OneMore m m′ c x) where
   }
 
   -- a cell goes
-  pub turn-out : Sound m → Sound m′ → Turn m′ m c (x .code) (x .marks)
-  turn-out s s′ = record {
+  pub turn-out : Sound m → Sound m′ → 0 < shape (x .code) .dimension → Turn m′ m c (x .code) (x .marks)
+  turn-out s s′ l = record {
+    was = s′;
     sound = s;
+    typed = more-typed l;
+    aside = λ d i n. let f = more-aside d i n in (f .1, f .0);
     apart = apart-back m m′ c (r .apart);
     count = more-count;
     inside = λ v e. rw (r .apart .caps) at (more-inside s′ v e);
@@ -151,16 +173,22 @@ module _ (m m′ : Map) (c t : ℕ) (marks : List ℕ) (r : Turn m m′ c t mark
 
 module _ (caps : Caps) (m : Map) (c t : ℕ) (marks : List ℕ) (s : State) (r : Turn m (mapWith caps s) c t marks) (a : Around caps m c s) where
   pub around-settle : MaySettle caps table t marks s
-  unfolding stateOf mapWith
+  unfolding stateOf mapWith moved
   around-settle = record {
     ready = record { sound = r .sound; chains = a .chains };
     types = refl;
+    typed = r .typed;
     count = r .count;
     inside = r .inside;
     sibs = λ h e. sib h e (ℕ-discrete (h / 8) c);
-    ancs = λ d v e. a .ancs d v ∙ ap next (sym (anchors-free m (mapWith caps s) c (r .apart) v (r .free v e) d));
+    ancs = λ d v l e. a .ancs d v ∙ ap next (sym (anc d v l (eqb (shape t .dimension) d) refl e));
   }
     where
+      anc : (d v : ℕ) → 1 ≤ d → (b : Bool) → eqb (shape t .dimension) d ≡ b → b && has v marks ≡ false → anchors (mapWith caps s) d v ≡ anchors m d v
+      anc d v l true q e = anchors-free m (mapWith caps s) c (r .apart) v (r .free v e) d
+      anc d v l false q e =
+          let n = r .aside d l (eqb-false _ d q) in anchors-aside m (mapWith caps s) c (r .apart) (r .was) (r .sound) d (n .0) (n .1) v
+
       sib : (h : ℕ) → among (mapWith caps s) (setsOf t marks) h ≡ false → Dec (h / 8 ≡ c) → sibWord s h ≡ sibWord (stateOf (mapWith caps s)) h
       sib h e (yes q) = a .own h q ∙ sym (not-own m (mapWith caps s) c t marks r h e q)
       sib h e (no n) = a .other h n ∙ kept-sib m (mapWith caps s) c t marks r h e n

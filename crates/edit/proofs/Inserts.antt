@@ -96,7 +96,7 @@ module _ (m : Map) (s : Sound m) (c : ℕ) (x : Body) (r : MayInsert m c x) wher
   same-map = refl
 
   turn : Turn m (changed m (Insert c x)) c (x .code) (x .marks)
-  turn = turn-in m (changed m (Insert c x)) c x (more-insert m s c x r) (sound-insert m s c x r)
+  turn = turn-in m (changed m (Insert c x)) c x (more-insert m s c x r) s (sound-insert m s c x r) (r .typed)
 
   around : Around (m .caps) m c (joined m c x)
   unfolding withLinks withBody stateOf

@@ -125,7 +125,8 @@ module _ (m : Map) (s : Sound m) (c : ℕ) (r : MayRemove m c) where
   }
 
   turn : Turn m (changed m (Remove c)) c (m .at c .code) (m .at c .marks)
-  turn = turn-out (changed m (Remove c)) m c (m .at c) (more-remove m s c r) (sound-remove m s c r) s
+  unfolding dimensionAt
+  turn = turn-out (changed m (Remove c)) m c (m .at c) (more-remove m s c r) (sound-remove m s c r) s (s .typed c (r .live))
 
   -- out of the chains of its marks the cell stands in no chain
   links : (v k : ℕ) → parted m c .chain v k ≡ holds (changed m (Remove c)) v k

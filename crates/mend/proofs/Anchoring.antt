@@ -11,6 +11,7 @@ use Rattle.lists.specs.Lists.{any, has}
 use Rattle.lists.proofs.Members.{at-has}
 use Rattle.lists.proofs.Alike.{and-false}
 use Rattle.words.proofs.Frame.{only-none, only-then}
+use Rattle.shapes.specs.Shapes.{shape}
 use Rattle.numbers.specs.declared.Caps.{Caps}
 use Rattle.map.specs.Cells.{Map}
 use Rattle.map.specs.declared.Way.{Way}
@@ -28,7 +29,7 @@ use Rattle.group.specs.Group.{Around}
 use Rattle.mend.specs.Settle.{among, MaySettle, settled}
 use Rattle.mend.specs.Sibs.{Sibs}
 use Rattle.mend.specs.Mended.{Mends}
-use Rattle.mend.specs.Ancs.{Ancs, threeAncs, MayAnchor, Anchors}
+use Rattle.mend.specs.Ancs.{Ancs, anchored, MayPut, MayAnchor, Anchors}
 use Rattle.mend.proofs.Sibs.{same-map}
 use Rattle.mend.proofs.Ancs.{ancs-more, settled-pic}
 use Rattle.mend.proofs.Mending.{ready-same}
@@ -45,30 +46,16 @@ live-way : (m : Map) (h : ℕ) → isHalf m h ≡ true → stateOf m .way h ≡ 
 unfolding stateOf
 live-way m h e = rw e
 
--- three words read, and then three put
-pub three-step : (caps : Caps) (rows : List (List (List ℕ))) (v x y z : ℕ) (w w₁ w₂ w₃ : List ℕ)
-    → Reads w caps (Around caps rows v) (λ m. next (anchors m 1 v)) x
-    → Reads w caps (Around caps rows v) (λ m. next (anchors m 2 v)) y
-    → Reads w caps (Around caps rows v) (λ m. next (anchors m 3 v)) z
-    → Step caps w w₁ (λ s. (v < caps .marks) × (1 ≤ 1) × (1 ≤ 3)) (λ s. withAnc s 1 v x)
-    → Step caps w₁ w₂ (λ s. (v < caps .marks) × (1 ≤ 2) × (2 ≤ 3)) (λ s. withAnc s 2 v y)
-    → Step caps w₂ w₃ (λ s. (v < caps .marks) × (1 ≤ 3) × (3 ≤ 3)) (λ s. withAnc s 3 v z)
-    → Step caps w w₃ (Around caps rows v) (λ s. threeAncs caps s s v)
-unfolding threeAncs stateOf
-three-step caps rows v x y z w w₁ w₂ w₃ p q r a b c = record {
-  inside = only-then (a .inside) (only-then (b .inside) (c .inside));
-  state = λ s pic k.
-      rw (← p .reads s pic k, ← q .reads s pic k, ← r .reads s pic k)
-      (c .state (withAnc (withAnc s 1 v x) 2 v y)
-      (b .state (withAnc s 1 v x) (a .state s pic (k .mark, omega arith, omega arith)) (k .mark, omega arith, omega arith))
-      (k .mark, omega arith, omega arith));
+-- a word read and put
+pub anchor-step : (caps : Caps) (rows : List (List (List ℕ))) (d v x : ℕ) (w w′ : List ℕ)
+    → Reads w caps (Around caps rows v) (λ m. next (anchors m d v)) x
+    → Step caps w w′ (λ s. (v < caps .marks) × (1 ≤ d) × (d ≤ 3)) (λ s. withAnc s d v x)
+    → Step caps w w′ (MayPut caps rows d v) (λ s. anchored caps s s d v)
+unfolding anchored stateOf
+anchor-step caps rows d v x w w′ p a = record {
+  inside = a .inside;
+  state = λ s pic k. rw (← p .reads s pic (k .around)) (a .state s pic (k .around .mark, k .dimension .0, k .dimension .1));
 }
-
-three-map : (caps : Caps) (s s′ : State) (v : ℕ) → mapWith caps s′ ≡ mapWith caps s → threeAncs caps s′ s′ v ≡ threeAncs caps s s′ v
-unfolding threeAncs
-three-map caps s s′ v e =
-    ap
-    (λ (m : Map). withAnc (withAnc (withAnc s′ 1 v (stateOf m .anc 1 v)) 2 v (stateOf m .anc 2 v)) 3 v (stateOf m .anc 3 v)) e
 
 -- a state with the same cells, chains and siblings is settled too
 settled-same : (caps : Caps) (s s′ : State) → s′ .at ≡ s .at → s′ .chain ≡ s .chain → s′ .sib ≡ s .sib → s′ .way ≡ s .way → Settled caps s
@@ -99,55 +86,62 @@ sibs-settled caps s s′ r x = record {
       ∙ (live-way (mapWith caps s) h half ∙ ap (λ (m : Map). way m h) (sym maps));
 }
 
-module _ (caps : Caps) (rows : List (List (List ℕ))) (marks w : List ℕ) where
-  pub anchors-start : Anchors caps rows marks w w (drop 0 marks)
+module _ (caps : Caps) (rows : List (List (List ℕ))) (d : ℕ) (marks w : List ℕ) where
+  pub anchors-start : Anchors caps rows d marks w w (drop 0 marks)
   anchors-start = record {
     inside = only-none;
-    state = λ s p k. (s, p, record { at = refl; chain = refl; sib = refl; way = refl; count = refl; right = λ d v a b e. k .ancs d v e });
+    state = λ s p k. (s, p, record { at = refl; chain = refl; sib = refl; way = refl; count = refl; right = λ e v a b h. k .ancs e v a h });
   }
 
-  pub anchors-more : (w′ w″ : List ℕ) (i v : ℕ) → v ≡ getD marks i 0 → Anchors caps rows marks w w′ (drop i marks) → i < length marks
-      → Step caps w′ w″ (Around caps rows v) (λ s. threeAncs caps s s v) → Anchors caps rows marks w w″ (drop (i + 1) marks)
+  pub anchors-more : (w′ w″ : List ℕ) (i v : ℕ) → v ≡ getD marks i 0 → Anchors caps rows d marks w w′ (drop i marks) → i < length marks
+      → Step caps w′ w″ (MayPut caps rows d v) (λ s. anchored caps s s d v) → Anchors caps rows d marks w w″ (drop (i + 1) marks)
+  unfolding anchored
   anchors-more w′ w″ i v e p h q = record {
     inside = only-then (p .inside) (q .inside);
     state = λ s pic k.
         let r = p .state s pic k in
         let left : drop i marks ≡ v ∷ drop (i + 1) marks = rw (add-one i, e) (drop-cons marks i 0 h) in
-        let same : threeAncs caps (r .0) (r .0) v ≡ threeAncs caps s (r .0) v = by-map s (r .0) (r .2 .at) in (
-          threeAncs caps s (r .0) v,
-          subst (λ (x : State). Pic w″ caps x) same (q .state (r .0) (r .1) (around s (r .0) k (r .2))),
-          ancs-more caps s (r .0) v (drop (i + 1) marks) (rw left at (r .2)),
+        let same : anchored caps (r .0) (r .0) d v ≡ anchored caps s (r .0) d v = by-map s (r .0) (r .2 .at) in (
+          anchored caps s (r .0) d v,
+          subst (λ (x : State). Pic w″ caps x) same (q .state (r .0) (r .1) (may-put s (r .0) k (r .2))),
+          ancs-more caps s (r .0) d v (drop (i + 1) marks) (rw left at (r .2)),
         );
   }
     where
-      by-map : (s s′ : State) → s′ .at ≡ s .at → threeAncs caps s′ s′ v ≡ threeAncs caps s s′ v
-      by-map s s′ a = three-map caps s s′ v (same-map caps s s′ a)
+      by-map : (s s′ : State) → s′ .at ≡ s .at → anchored caps s′ s′ d v ≡ anchored caps s s′ d v
+      by-map s s′ a = ap (λ (m : Map). withAnc s′ d v (stateOf m .anc d v)) (same-map caps s s′ a)
 
-      around : (s s′ : State) {left : List ℕ} → MayAnchor caps rows marks s → Ancs caps s s′ left → Around caps rows v s′
-      around s s′ k x = record {
-        settled = settled-same caps s s′ (x .at) (x .chain) (x .sib) (x .way) (k .settled);
-        types = k .types;
-        mark = k .inside v (rw e (at-has marks i h));
+      may-put : (s s′ : State) {left : List ℕ} → MayAnchor caps rows d marks s → Ancs caps s s′ d left → MayPut caps rows d v s′
+      may-put s s′ k x = record {
+        around = record {
+          settled = settled-same caps s s′ (x .at) (x .chain) (x .sib) (x .way) (k .settled);
+          types = k .types;
+          mark = k .inside v (rw e (at-has marks i h));
+        };
+        dimension = k .dimension;
       }
 
-  pub anchors-done : (w′ : List ℕ) (i : ℕ) → Anchors caps rows marks w w′ (drop i marks) → length marks ≤ i → Anchors caps rows marks w w′ []
+  pub anchors-done : (w′ : List ℕ) (i : ℕ) → Anchors caps rows d marks w w′ (drop i marks) → length marks ≤ i → Anchors caps rows d marks w w′ []
   anchors-done w′ i p h = rw (drop-of-length-le marks {i = i} h) at p
 
 -- siblings and first anchors: settled
-pub settle-step : (caps : Caps) (rows : List (List (List ℕ))) (t : ℕ) (marks w w′ w″ : List ℕ) → Mends caps rows t marks w w′ [] → Anchors caps rows marks w′ w″ []
-    → Step caps w w″ (MaySettle caps rows t marks) (settled caps)
-settle-step caps rows t marks w w′ w″ p q = record {
+pub settle-step : (caps : Caps) (rows : List (List (List ℕ))) (t d : ℕ) (marks w w′ w″ : List ℕ) → d ≡ shape t .dimension
+    → Mends caps rows t marks w w′ [] → Anchors caps rows d marks w′ w″ [] → Step caps w w″ (MaySettle caps rows t marks) (settled caps)
+settle-step caps rows t d marks w w′ w″ e p q = record {
   inside = only-then (p .inside) (q .inside);
   state = λ s pic k.
       let r = p .state s pic k in
       let o = q .state (r .0) (r .1) (may s (r .0) k (r .2)) in
-      settled-pic w″ caps s (r .0) (o .0) (r .2) (o .2) (o .1);
+      settled-pic w″ caps s (r .0) (o .0) d (r .2) (o .2) (o .1);
 }
   where
-    may : (s s′ : State) → MaySettle caps rows t marks s → Sibs caps s s′ [] → MayAnchor caps rows marks s′
+    may : (s s′ : State) → MaySettle caps rows t marks s → Sibs caps s s′ [] → MayAnchor caps rows d marks s′
     may s s′ k x = record {
       settled = sibs-settled caps s s′ (k .ready) x;
       types = k .types;
+      dimension = rw e (k .typed);
       inside = k .inside;
-      ancs = λ d v e. ap (λ (f : ℕ → ℕ → ℕ). f d v) (x .anc) ∙ (k .ancs d v e ∙ ap (λ (m : Map). stateOf m .anc d v) (sym (same-map caps s s′ (x .at))));
+      ancs = λ u v a h.
+          ap (λ (f : ℕ → ℕ → ℕ). f u v) (x .anc)
+          ∙ (k .ancs u v a (rw (← e) h) ∙ ap (λ (m : Map). stateOf m .anc u v) (sym (same-map caps s s′ (x .at))));
     }
