@@ -28,7 +28,7 @@ use Rattle.map.specs.Cells.{Map, holds, facetsAt}
 use Rattle.map.specs.Sound.{Sound}
 use Rattle.map.specs.Siblings.{isHalf, Half, marksOf, sibling, border}
 use Rattle.map.specs.Stars.{star, linked, group, halvesAt}
-use Rattle.laws.proofs.Anchors.{facets-linked, star-has, has-star, halves-has, has-halves, group-in-star, corner-half}
+use Rattle.laws.proofs.Anchors.{facets-linked, star-one-group, star-has, has-star, halves-has, has-halves, group-in-star, corner-half}
 use Rattle.laws.proofs.Cycles.{sibling-has, sibling-set, sibling-live, self-border}
 use Rattle.laws.proofs.Facets.{siblings-dimension}
 use Rattle.laws.proofs.Groups.{group-closed}
@@ -68,6 +68,9 @@ pub other-more : (bits g f left found r : ℕ) → f < mostFacets → From bits 
 other-more bits g f left found r h a o b = record {
   one = ⊎-elim (λ e. rw e (o .one)) (λ q. inr (rw (q .0) (h, sym (from-here bits f left a) ∙ q .1))) (b .one);
 }
+
+pub other-again : (bits g k r : ℕ) → Other bits g k → Other bits k r → Other bits g r
+other-again bits g k r a b = record { one = ⊎-elim (λ e. rw e (a .one)) inr (b .one) }
 
 module _ (w : List ℕ) (caps : Caps) (s : State) (p : Pic w caps s) (v : ℕ) (b : Beside caps v s) where
   abbrev m : Map
@@ -159,10 +162,22 @@ module _ (w : List ℕ) (caps : Caps) (v start : ℕ) where
     pub kept-out : k ≡ h → Out w caps v start true
     unfolding bordered
     kept-out z = record {
-      out = λ _ s p b d c e.
+      out = λ _ s p b d c e _.
           let here = kept s p b d c e in
           let x = step s p b d c here in
           has-any (border (mapWith caps s)) _ h here (self-border (mapWith caps s) h (x .0) (sym (x .1) ∙ z));
+    }
+
+    -- a cell before its own, which is of its group
+    pub kept-before : k / 8 < start / 8 → Out w caps v start true
+    unfolding bordered
+    kept-before l = record {
+      out = λ _ s p b d c e before.
+          let m : Map = mapWith caps s in
+          let here = kept s p b d c e in
+          let there : has k (halvesAt m v (group m d v c)) ≡ true = rw (step s p b d c here .1) (sibling-stays w caps s p v b d c h here) in
+          let mine : has (k / 8) (group m d v c) ≡ true = halves-has m v (group m d v c) k there .1 in
+          rw (star-one-group m d v c (k / 8) mine) at (before (k / 8) (group-in-star m d v c (k / 8) mine) l);
     }
 
   pub out-not : Out w caps v start false
@@ -182,7 +197,7 @@ module _ (w : List ℕ) (caps : Caps) (v c : ℕ) where
   pub cell-out-blank : (bits : ℕ) → bits ≡ 0 → CellOut w caps v c bits true
   unfolding mapWith
   cell-out-blank bits e = record {
-    out = λ _ s p b d digits there.
+    out = λ _ s p b d digits there _.
         let m : Map = mapWith caps s in
         let cell = star-has m d v c there in
         let h = corner-half m (record { count = b .settled .ready .sound .fitting }) v c (cell .2) (cell .0) in
@@ -193,13 +208,13 @@ module _ (w : List ℕ) (caps : Caps) (v c : ℕ) where
   pub cell-out-found : (bits f left : ℕ) (r : Bool) → From bits f left → f < mostFacets → FacetOut w caps v c f left r → r ≡ true → CellOut w caps v c bits true
   unfolding halfOf mapWith
   cell-out-found bits f left r a h out e = record {
-    out = λ _ s p b d digits there.
+    out = λ _ s p b d digits there before.
         let m : Map = mapWith caps s in
         let half = digits .half f h (sym (from-here bits f left a) ∙ out .digit e) in
         let cell : (8 * c + f) / 8 ≡ c = omega arith in
         let uncut : 8 * c + f ≡ 8 * cut c + f % 8 = omega (arith, star-has m d v c there .0, p .cells) in
         let own : has (8 * c + f) (halvesAt m v (group m d v c)) ≡ true = rw cell at (own-group m d v (8 * c + f) half) in
-        out .facet .out e s p b d c (rw uncut at own);
+        out .facet .out e s p b d c (rw uncut at own) (λ k there l. before k there (omega (arith, l, uncut)));
   }
 
 -- from each cell of a star, along the chain
@@ -250,7 +265,7 @@ module _ (caps : Caps) (s : State) (v : ℕ) (b : Beside caps v s) (d : ℕ) whe
         })
 
         go : (c : ℕ) → has c (star (mapWith caps s) d v) ≡ true → c < suc (i / 8) → Dec (c ≡ i / 8) → bordered (mapWith caps s) d v c ≡ true
-        go c there l (yes z) = rw z (out .out t s p b d mine (rw z at there))
+        go c there l (yes z) = rw z (out .out t s p b d mine (rw z at there) outing-before)
         go c there l (no f) = outing-before c there (omega arith)
 
 pub all-out-not : (w : List ℕ) (caps : Caps) (d v b : ℕ) → AllOut w caps d v b false

@@ -46,10 +46,14 @@ pub record Stays (w : List ℕ) (caps : Caps) (v h r : ℕ) : Type 0 where
   pub stays : (s : State) → Pic w caps s → Beside caps v s → (g : List ℕ)
       → has h (halvesAt (mapWith caps s) v g) ≡ true → has r (halvesAt (mapWith caps s) v g) ≡ true
 
--- yes only where a half-facet's group has a border that holds the mark
+-- each cell of a star before one has a border in its group
+abbrev pub BorderedBefore : Caps → State → ℕ → ℕ → ℕ → Type 0
+BorderedBefore caps s d v c = (b : ℕ) → has b (star (mapWith caps s) d v) ≡ true → b < c → bordered (mapWith caps s) d v b ≡ true
+
+-- yes only where a half-facet's group has a border that holds the mark, if that of each cell before its own has
 pub record Out (w : List ℕ) (caps : Caps) (v h : ℕ) (r : Bool) : Type 0 where
   pub out : r ≡ true → (s : State) → Pic w caps s → Beside caps v s → (d c : ℕ)
-      → has h (halvesAt (mapWith caps s) v (group (mapWith caps s) d v c)) ≡ true → bordered (mapWith caps s) d v c ≡ true
+      → has h (halvesAt (mapWith caps s) v (group (mapWith caps s) d v c)) ≡ true → BorderedBefore caps s d v (h / 8) → bordered (mapWith caps s) d v c ≡ true
 
 -- so of facet f of a cell, whose digit is the last of left
 pub record FacetOut (w : List ℕ) (caps : Caps) (v c f left : ℕ) (r : Bool) : Type 0 where
@@ -64,7 +68,7 @@ pub record Digits (caps : Caps) (s : State) (d v c bits : ℕ) : Type 0 where
 -- so for a cell of a star, by its digits
 pub record CellOut (w : List ℕ) (caps : Caps) (v c bits : ℕ) (r : Bool) : Type 0 where
   pub out : r ≡ true → (s : State) → Pic w caps s → Beside caps v s → (d : ℕ) → Digits caps s d v c bits → has c (star (mapWith caps s) d v) ≡ true
-      → bordered (mapWith caps s) d v c ≡ true
+      → BorderedBefore caps s d v c → bordered (mapWith caps s) d v c ≡ true
 
 -- and for each cell of the star before one
 pub record AllOut (w : List ℕ) (caps : Caps) (d v b : ℕ) (r : Bool) : Type 0 where

@@ -215,17 +215,30 @@ fn other(bits: u32, g: u32) -> u32
     found
 }
 
+// Of some facets another than g: the next, or with `back` the one behind the next, where that is another too.
+fn swing(bits: u32, g: u32, back: bool) -> u32
+    ensures { λ r. ⌜ Other bits g r ⌝ }
+{
+    let next = other(bits, g);
+    if !back {
+        return next;
+    }
+    let behind = other(bits, next);
+    if behind == g { next } else { behind }
+}
+
 // Another half-facet of the cell at the mark.
-fn turn(w: &[u32], caps: Caps, v: Mark, h: Half) -> Half
+fn turn(w: &[u32], caps: Caps, v: Mark, h: Half, back: bool) -> Half
     ensures { λ r. ⌜ Stays (now (w .entry)) caps (v .0) (h .0) (r .0) ⌝ }
 {
     let c = cell_of(h);
     let bits = at_corner(code_of(w, caps, c), corner_with(w, caps, c, v));
-    half_of(c, other(bits, facet_of(h)))
+    half_of(c, swing(bits, facet_of(h), back))
 }
 
-// Whether a walk from a half-facet at the mark meets a border at it: to the sibling, to another half-facet of the sibling's cell, and so on. It
-// stays in the group; where it does not meet one there may be one.
+// Whether a walk from a half-facet at the mark meets a border at it, or a cell before its own: to the sibling, to another half-facet of the sibling's
+// cell, and so on, now the next, now the one behind it, so that among solids it crosses the star and does not go round an edge. It stays in the
+// group; where it does not meet one there may be one.
 fn walks_out(w: &[u32], caps: Caps, v: Mark, start: Half) -> bool
     ensures { λ r. ⌜ Out (now (w .entry)) caps (v .0) (start .0) r ⌝ }
 {
@@ -236,7 +249,10 @@ fn walks_out(w: &[u32], caps: Caps, v: Mark, start: Half) -> bool
         if next.0 == h.0 {
             return true;
         }
-        h = turn(w, caps, v, next);
+        if next.0 / 8 < start.0 / 8 {
+            return true;
+        }
+        h = turn(w, caps, v, next, left % 2 == 0);
         if h.0 == start.0 {
             return false;
         }

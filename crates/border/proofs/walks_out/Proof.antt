@@ -1,6 +1,6 @@
 -- `border::walks_out` meets its contract.
 use borrow.Author.Needs.{needs}
-use Rattle.border.proofs.Walked.{Kept, kept-more, kept-out, out-not}
+use Rattle.border.proofs.Walked.{Kept, kept-more, kept-out, kept-before, out-not}
 use Rattle.border.proofs.walks_out.Statement.{statement}
 use Rattle.border.proofs.walks_out.Tie as tie
 
@@ -20,17 +20,23 @@ returns c =
     kept-out _ _ _ _ (at-loop .loop .h .0) _ (at-loop .loop .inv) (at-sibling-of .sibling-of .ensures) (c .if1 .taken)
 
 returns-2 : tie.Need-returns-2 Inv-loop μ-loop
-returns-2 c = out-not _ _ _ _
+returns-2 c =
+    let at-sibling-of = c .before .before .before .before .before .before in
+    let at-loop = at-sibling-of .before .before in
+    kept-before _ _ _ _ (at-loop .loop .h .0) _ (at-loop .loop .inv) (at-sibling-of .sibling-of .ensures) (c .if2 .taken)
+
+returns-3 : tie.Need-returns-3 Inv-loop μ-loop
+returns-3 c = out-not _ _ _ _
 
 loop-again : tie.Need-loop-again Inv-loop μ-loop
 loop-again c =
     let at-turn = c .before .before .before in
-    let at-sibling-of = at-turn .before .before .before .before in
+    let at-sibling-of = at-turn .before .before .before .before .before .before .before in
     let at-loop = at-sibling-of .before .before in
     kept-more _ _ _ _ (at-loop .loop .h .0) _ (at-loop .loop .inv) (at-sibling-of .sibling-of .ensures) _ (at-turn .turn .ensures)
 
-returns-3 : tie.Need-returns-3 Inv-loop μ-loop
-returns-3 c = out-not _ _ _ _
+returns-4 : tie.Need-returns-4 Inv-loop μ-loop
+returns-4 c = out-not _ _ _ _
 
 pub walks-out-spec : {M : Type 1} → statement M
 walks-out-spec =
@@ -41,9 +47,10 @@ walks-out-spec =
     loop-holds
     (λ c κs. search needs)
     returns
-    (λ c κs. search needs)
     returns-2
+    (λ c κs. search needs)
+    returns-3
     (λ c. search needs)
     (λ c. search needs)
     loop-again
-    returns-3)
+    returns-4)
