@@ -1,6 +1,7 @@
 //! Nanoseconds a call: the proved library beside a plain-Rust hash map of
 //! facet sets, in one run on one machine; with `switchboard` and files of surfaces,
-//! what request 11 asks.
+//! what request 11 asks; with `once` and the name of a map, its edits made once, to be
+//! counted from outside.
 
 mod clock;
 mod facet_map;
@@ -33,6 +34,7 @@ fn main() {
     let words: Vec<String> = std::env::args().skip(1).collect();
     match words.split_first() {
         Some((word, files)) if word == "switchboard" => switchboard::run(files),
+        Some((word, names)) if word == "once" => switchboard::once(names),
         _ => calls(),
     }
 }

@@ -47,6 +47,30 @@ pub fn run(files: &[String]) {
     row("bricks", bricks(SMALL), bricks(LARGE));
 }
 
+/// The edits anywhere of each named map, at 50,000 cells, made once: of each round
+/// the calls that are counted are those of the library.
+pub fn once(names: &[String]) {
+    for name in names {
+        let map = match name.as_str() {
+            "grid" => grid(LARGE),
+            "shuffled" => grid(LARGE).shuffled(),
+            "crowded" => crowded(LARGE),
+            "tetrahedra" => tetrahedra(LARGE),
+            "bricks" => bricks(LARGE),
+            _ => panic!("no map of that name: {name}"),
+        };
+        let mut chance = Chance::new(11);
+        let anywhere = Edits::among(&mut chance, (0..map.cells.len() as u32).collect());
+        let nowhere = Edits {
+            before: vec![],
+            mixed: vec![],
+            after: vec![],
+        };
+        our_round(&map, &anywhere, &nowhere);
+        println!("{}", anywhere.before.len() + EDITS + anywhere.after.len());
+    }
+}
+
 fn row(name: &str, small: Map, large: Map) {
     let (our_small, their_small) = measured(&small);
     let (ours, theirs) = measured(&large);
