@@ -187,6 +187,10 @@ module _ (p q : Bool) where
   unfolding runs
   run-neither e t = rw (e, t)
 
+-- the direction of two lists that are two others
+pub direction-sets : (f g : ℕ) (a b a′ b′ : List ℕ) (x : Way) → x ≡ direction f a g b → a ≡ a′ → b ≡ b′ → x ≡ direction f a′ g b′
+direction-sets f g a b a′ b′ x e p q = e ∙ (ap (λ (l : List ℕ). direction f l g b) p ∙ ap (λ (l : List ℕ). direction f a′ g l) q)
+
 -- the direction by the size of the facet
 module _ (f g : ℕ) (a b : List ℕ) (x : Way) where
   pub bar-way : length a ≡ 1 → x ≡ runs (eqb f g) true → x ≡ direction f a g b
