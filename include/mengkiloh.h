@@ -35,8 +35,8 @@ extern "C" {
 /* Why a call is refused. Checks run in the order that each call lists. */
 enum mk_refusal {
     MK_ACCEPTED = 0,
-    MK_CAPACITY_ABOVE = 1,  /* a capacity is above 65,535 */
-    MK_MEMORY_SHORT = 2,    /* at format or build, memory is shorter than the room */
+    MK_CAPACITY_ABOVE = 1,  /* a capacity, or the day of an entry, is above 65,535 */
+    MK_MEMORY_SHORT = 2,    /* memory is shorter than the room, or a journal than its head */
     MK_CELL_OUTSIDE = 3,    /* a cell number is not below the capacity */
     MK_CELL_LIVE = 4,       /* insert: the number is live */
     MK_CELL_NOT_LIVE = 5,   /* the cell is not live */
@@ -50,9 +50,13 @@ enum mk_refusal {
     MK_MARK_FULL = 11,      /* one of the marks stands in 128 live cells already */
     MK_OUTPUT_SHORT = 12,   /* output buffer shorter than the list */
     MK_FACET_OUTSIDE = 13,  /* local facet not below the type's count */
-    MK_NOT_MESH = 14,       /* memory is not a mesh */
+    MK_NOT_MESH = 14,       /* memory is not a mesh, or not a journal of it */
     MK_POSITIONS_SHORT = 16, /* position list shorter than three numbers per mark */
-    MK_FACE_FULL = 19       /* insert under edition 2: a third solid on a face */
+    MK_FACE_FULL = 19,      /* insert under edition 2: a third solid on a face */
+    MK_DAY_BEFORE = 20,     /* entry: a day before the last */
+    MK_DAY_FOLDED = 21,     /* query: a day before the last fold */
+    MK_FOLD_NOT_ALLOWED = 22, /* fold: not allowed, or no edit was ever entered */
+    MK_JOURNAL_FULL = 23    /* entry: the journal is full */
 };
 
 /* The editions of the sheet rules. Under the second a face lies between two solids at most. */

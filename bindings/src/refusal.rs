@@ -23,11 +23,15 @@ pub enum Refusal {
     NotMesh = 14,
     PositionsShort = 16,
     FaceFull = 19,
+    DayBefore = 20,
+    DayFolded = 21,
+    FoldNotAllowed = 22,
+    JournalFull = 23,
 }
 
 impl Refusal {
     /// All of them, by number.
-    pub const ALL: [Refusal; 16] = [
+    pub const ALL: [Refusal; 20] = [
         Refusal::CapacityAbove,
         Refusal::MemoryShort,
         Refusal::CellOutside,
@@ -44,6 +48,10 @@ impl Refusal {
         Refusal::NotMesh,
         Refusal::PositionsShort,
         Refusal::FaceFull,
+        Refusal::DayBefore,
+        Refusal::DayFolded,
+        Refusal::FoldNotAllowed,
+        Refusal::JournalFull,
     ];
 
     /// The outline's number.
@@ -54,8 +62,8 @@ impl Refusal {
     /// What it means.
     pub fn meaning(self) -> &'static str {
         match self {
-            Refusal::CapacityAbove => "a capacity is above 65,535",
-            Refusal::MemoryShort => "memory is shorter than the room",
+            Refusal::CapacityAbove => "a capacity, or the day of an entry, is above 65,535",
+            Refusal::MemoryShort => "memory is shorter than the room, or a journal than its head",
             Refusal::CellOutside => "the cell number is not below the capacity",
             Refusal::CellLive => "the cell number is live already",
             Refusal::CellNotLive => "the cell is not live",
@@ -72,11 +80,15 @@ impl Refusal {
             Refusal::MarkFull => "one of the marks stands in 128 live cells already",
             Refusal::OutputShort => "the output is shorter than the list",
             Refusal::FacetOutside => "the cell has no such facet",
-            Refusal::NotMesh => "the memory is not a mesh",
+            Refusal::NotMesh => "the memory is not a mesh, or not a journal of it",
             Refusal::PositionsShort => {
                 "the list of positions is shorter than three numbers for each mark"
             }
             Refusal::FaceFull => "under edition 2, a third solid on a face",
+            Refusal::DayBefore => "the day of an entry is before the last",
+            Refusal::DayFolded => "the day that is asked for is before the last fold",
+            Refusal::FoldNotAllowed => "the fold is not allowed, or no edit was ever entered",
+            Refusal::JournalFull => "the journal is full",
         }
     }
 

@@ -23,11 +23,15 @@ pub enum Refusal {
     BadFrame = 15,
     PositionsShort = 16,
     FaceFull = 19,
+    DayBefore = 20,
+    DayFolded = 21,
+    FoldNotAllowed = 22,
+    JournalFull = 23,
 }
 
 impl Refusal {
     /// All of them, by number.
-    pub const ALL: [Refusal; 17] = [
+    pub const ALL: [Refusal; 21] = [
         Refusal::CapacityAbove,
         Refusal::MemoryShort,
         Refusal::CellOutside,
@@ -45,6 +49,10 @@ impl Refusal {
         Refusal::BadFrame,
         Refusal::PositionsShort,
         Refusal::FaceFull,
+        Refusal::DayBefore,
+        Refusal::DayFolded,
+        Refusal::FoldNotAllowed,
+        Refusal::JournalFull,
     ];
 
     /// The number of the table.
@@ -55,8 +63,8 @@ impl Refusal {
     /// When it is given, in the table's words.
     pub fn meaning(self) -> &'static str {
         match self {
-            Refusal::CapacityAbove => "a capacity is above 65,535",
-            Refusal::MemoryShort => "at format or build, memory is shorter than the room",
+            Refusal::CapacityAbove => "a capacity, or the day of an entry, is above 65,535",
+            Refusal::MemoryShort => "memory is shorter than the room, or a journal than its head",
             Refusal::CellOutside => "a cell number is not below the capacity",
             Refusal::CellLive => "insert: the number is live",
             Refusal::CellNotLive => "the cell is not live",
@@ -78,6 +86,10 @@ impl Refusal {
             Refusal::BadFrame => "bad frame (program only)",
             Refusal::PositionsShort => "position list shorter than three numbers per mark",
             Refusal::FaceFull => "insert under edition 2: a third solid on a face",
+            Refusal::DayBefore => "entry: a day before the last",
+            Refusal::DayFolded => "query: a day before the last fold",
+            Refusal::FoldNotAllowed => "fold: not allowed, or no edit was ever entered",
+            Refusal::JournalFull => "entry: the journal is full",
         }
     }
 }

@@ -106,8 +106,8 @@ fn half_facet_numbers_and_lookup_sets_have_room_for_every_type() {
 #[test]
 fn the_refusals_are_the_outlines() {
     let outline = "\
-1: a capacity is above 65,535
-2: at format or build, memory is shorter than the room
+1: a capacity, or the day of an entry, is above 65,535
+2: memory is shorter than the room, or a journal than its head
 3: a cell number is not below the capacity
 4: insert: the number is live
 5: the cell is not live
@@ -123,6 +123,10 @@ fn the_refusals_are_the_outlines() {
 15: bad frame (program only)
 16: position list shorter than three numbers per mark
 19: insert under edition 2: a third solid on a face
+20: entry: a day before the last
+21: query: a day before the last fold
+22: fold: not allowed, or no edit was ever entered
+23: entry: the journal is full
 ";
     let lines: String = Refusal::ALL
         .iter()

@@ -5,7 +5,7 @@ use Prim.Native.Nat.{ℕ, suc, _%_, _<_, _≤_}
 use native.Mathlib.Omega.{arith}
 use lib.ListN.{getD, length}
 use Rattle.map.specs.declared.Refusal.{Refusal}
-use Rattle.map.specs.declared.Refusal.the-variants.{CapacityAbove, MemoryShort, CellOutside, CellLive, CellNotLive, TypeUnknown, CountWrong, MarkOutside, MarkTwice, CellSame, MarkFull, OutputShort, FacetOutside, NotMesh, BadFrame, PositionsShort, FaceFull}
+use Rattle.map.specs.declared.Refusal.the-variants.{CapacityAbove, MemoryShort, CellOutside, CellLive, CellNotLive, TypeUnknown, CountWrong, MarkOutside, MarkTwice, CellSame, MarkFull, OutputShort, FacetOutside, NotMesh, BadFrame, PositionsShort, FaceFull, DayBefore, DayFolded, FoldNotAllowed, JournalFull}
 use Rattle.map.specs.Says.{numberOf}
 
 -- in the order of their numbers, from 1 on; at 17 and 18, which none has, stands the 15
@@ -30,6 +30,10 @@ refusals =
     ∷ BadFrame
     ∷ BadFrame
     ∷ FaceFull
+    ∷ DayBefore
+    ∷ DayFolded
+    ∷ FoldNotAllowed
+    ∷ JournalFull
     ∷ []
 
 -- each stands at its number
@@ -58,6 +62,10 @@ row NotMesh = record { place = 13; here = refl; number = refl; byte = omega arit
 row BadFrame = record { place = 14; here = refl; number = refl; byte = omega arith }
 row PositionsShort = record { place = 15; here = refl; number = refl; byte = omega arith }
 row FaceFull = record { place = 18; here = refl; number = refl; byte = omega arith }
+row DayBefore = record { place = 19; here = refl; number = refl; byte = omega arith }
+row DayFolded = record { place = 20; here = refl; number = refl; byte = omega arith }
+row FoldNotAllowed = record { place = 21; here = refl; number = refl; byte = omega arith }
+row JournalFull = record { place = 22; here = refl; number = refl; byte = omega arith }
 
 -- the refusal of a number
 pub number-back : (r : Refusal) → (k : ℕ) × (numberOf r ≡ suc k) × (getD refusals k BadFrame ≡ r)

@@ -2,7 +2,7 @@
 use mathlib.Core.List.{List, [], _∷_}
 use Prim.Native.Nat.{ℕ}
 use Rattle.map.specs.declared.Refusal.{Refusal}
-use Rattle.map.specs.declared.Refusal.the-variants.{CapacityAbove, MemoryShort, CellOutside, CellLive, CellNotLive, TypeUnknown, CountWrong, MarkOutside, MarkTwice, CellSame, MarkFull, OutputShort, FacetOutside, NotMesh, BadFrame, PositionsShort, FaceFull}
+use Rattle.map.specs.declared.Refusal.the-variants.{CapacityAbove, MemoryShort, CellOutside, CellLive, CellNotLive, TypeUnknown, CountWrong, MarkOutside, MarkTwice, CellSame, MarkFull, OutputShort, FacetOutside, NotMesh, BadFrame, PositionsShort, FaceFull, DayBefore, DayFolded, FoldNotAllowed, JournalFull}
 use Rattle.map.specs.declared.Verdict.{Verdict}
 use Rattle.map.specs.declared.Verdict.the-variants as Verdict′
 use Rattle.map.specs.declared.Value.{Value}
@@ -38,6 +38,10 @@ numberOf NotMesh = 14
 numberOf BadFrame = 15
 numberOf PositionsShort = 16
 numberOf FaceFull = 19
+numberOf DayBefore = 20
+numberOf DayFolded = 21
+numberOf FoldNotAllowed = 22
+numberOf JournalFull = 23
 
 unfoldable pub given : List ℕ → Answer
 given values = record { refusal = 0; values = values }

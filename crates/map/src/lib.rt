@@ -29,6 +29,10 @@ pub enum Refusal {
     BadFrame,
     PositionsShort,
     FaceFull,
+    DayBefore,
+    DayFolded,
+    FoldNotAllowed,
+    JournalFull,
 }
 
 // The outline's number of a refusal.
@@ -53,6 +57,10 @@ pub fn number_of(r: Refusal) -> u32
         Refusal::BadFrame => 15,
         Refusal::PositionsShort => 16,
         Refusal::FaceFull => 19,
+        Refusal::DayBefore => 20,
+        Refusal::DayFolded => 21,
+        Refusal::FoldNotAllowed => 22,
+        Refusal::JournalFull => 23,
     }
 }
 
