@@ -49,7 +49,7 @@ joined-inside x x′ rest e = record {
 }
 
 -- words that agree in the room stand for the same map
-wf-alike : (a b : List ℕ) (m : Map) → Wf a m → roomOf m ≤ length b → ((i : ℕ) → i < roomOf m → getD b i 0 ≡ getD a i 0) → Wf b m
+pub wf-alike : (a b : List ℕ) (m : Map) → Wf a m → roomOf m ≤ length b → ((i : ℕ) → i < roomOf m → getD b i 0 ≡ getD a i 0) → Wf b m
 unfolding read
 wf-alike a b m wf h same = record {
   sound = wf .sound;

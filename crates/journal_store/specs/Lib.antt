@@ -1,0 +1,4 @@
+pub mod Days
+pub mod Entries
+pub mod Journals
+pub mod Writes

@@ -1,0 +1,5 @@
+-- The laws that the layers above cite.
+pub mod Replaying
+pub mod Allowing
+pub mod Folding
+pub mod Days
