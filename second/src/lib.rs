@@ -10,6 +10,7 @@
 //! - [`calls`]: every call, its checks in the listed order, then the answer.
 //! - [`positions`]: points, centres and measures, in whole metres.
 //! - [`cases`]: the outline's cases, with every answer, as text.
+//! - [`journal`]: the map on any day: edits with their days, begun, entered, asked, folded.
 //! - [`frames`]: the frame program, from input bytes to output bytes.
 
 #![forbid(unsafe_code)]
@@ -17,11 +18,13 @@
 pub mod calls;
 pub mod cases;
 pub mod frames;
+pub mod journal;
 pub mod map;
 pub mod positions;
 pub mod refusal;
 pub mod shapes;
 
 pub use calls::{room, Memory, Mesh, Tally, Walker};
+pub use journal::Journal;
 pub use map::Way;
 pub use refusal::Refusal;
