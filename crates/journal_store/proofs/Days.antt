@@ -106,7 +106,7 @@ module _ (e : Dated) where
       go on (yes l) = rw (since-early f x (es ++ (e ∷ [])) l, since-early f x es l) on
       go on (no n) = rw (since-late f x (es ++ (e ∷ [])) (omega arith), since-late f x es (omega arith)) (ap (λ (y : List Dated). x ∷ y) on)
 
-  last-or-end : (d : ℕ) (es : List Dated) → lastOr d (es ++ (e ∷ [])) ≡ e .day
+  pub last-or-end : (d : ℕ) (es : List Dated) → lastOr d (es ++ (e ∷ [])) ≡ e .day
   unfolding lastOr
   last-or-end d [] = refl
   last-or-end d (x ∷ es) = last-or-end (x .day) es
@@ -120,7 +120,7 @@ module _ (e : Dated) where
   ever-end [] = refl
   ever-end (x ∷ es) = refl
 
-  ascends-or-end : {d : ℕ} {es : List Dated} → Ascends d es → lastOr d es ≤ e .day → Ascends d (es ++ (e ∷ []))
+  pub ascends-or-end : {d : ℕ} {es : List Dated} → Ascends d es → lastOr d es ≤ e .day → Ascends d (es ++ (e ∷ []))
   unfolding lastOr
   ascends-or-end D.none h = D.next h D.none
   ascends-or-end (D.next low rest) h = D.next low (ascends-or-end rest h)

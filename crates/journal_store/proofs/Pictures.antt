@@ -51,13 +51,13 @@ module _ (j j₁ j′ : List ℕ) (caps : Caps) (used : ℕ) (eu : used ≡ used
   }
 
 -- the words of the entry at the end, and of each other
-words-end : (es : List Dated) (e : Dated) (k : ℕ) → k ≡ length es → wordsAt (es ++ (e ∷ [])) k ≡ wordsOf e
+pub words-end : (es : List Dated) (e : Dated) (k : ℕ) → k ≡ length es → wordsAt (es ++ (e ∷ [])) k ≡ wordsOf e
 unfolding wordsAt
 words-end [] e k z = rw z
 words-end (x ∷ es) e zero z = absurd (omega arith)
 words-end (x ∷ es) e (suc k) z = words-end es e k (omega arith)
 
-words-other : (es : List Dated) (e : Dated) (k : ℕ) → (k ≡ length es → ⊥) → wordsAt (es ++ (e ∷ [])) k ≡ wordsAt es k
+pub words-other : (es : List Dated) (e : Dated) (k : ℕ) → (k ≡ length es → ⊥) → wordsAt (es ++ (e ∷ [])) k ≡ wordsAt es k
 unfolding wordsAt
 words-other [] e zero f = absurd (f refl)
 words-other [] e (suc k) f = refl

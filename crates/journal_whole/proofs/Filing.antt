@@ -15,11 +15,10 @@ use Rattle.journal_store.specs.Days as D
 use Rattle.journal_store.specs.Days.{Dated, before, since, mapAfter, lastOr, lastDay, everOf, Ascends, AllFit}
 use Rattle.journal_store.specs.Entries.{journalMagic, headWords, entryWords, placesOf, usedOf, entryAt, headOf, wordsAt}
 use Rattle.journal_store.specs.Journals.{entriesIn, lastIn, everIn, foldIn, dayIn, Pictured}
-use Rattle.journal_store.proofs.Days.{since-early, since-late, since-all, before-none, ascends-weaken, ascends-since, fit-since, ever-end, dayAt, first-day}
+use Rattle.journal_store.proofs.Days.{since-early, since-late, since-all, before-none, ascends-weaken, ascends-since, fit-since, ever-end, dayAt, first-day, last-or-end}
 use Rattle.journal_store.proofs.Reading.{words-none, head-entries, head-last, head-ever, head-fold, day-read, place-fits}
 use Rattle.journal.specs.Kept.{Filed}
 use Rattle.journal_whole.specs.Checks.{Zeros, entryIn, entriesOf, Listed}
-use Rattle.journal_whole.proofs.Listing.{last-more}
 use Rattle.journal_whole.proofs.Heads.{Good}
 
 -- the edits from a day on are of no day before it
@@ -127,7 +126,7 @@ unfolding entriesOf lastDay lastOr
 read-last j zero g e = sym (g .none (sym e) .0 .0)
 read-last j (suc n) g e =
     let i : n ≡ entriesIn j - 1 = omega arith in
-    last-more (entryIn j n) 0 (entriesOf j n) ∙ (ap (dayIn j) i ∙ sym (g .some (λ z. omega arith) .1))
+    last-or-end (entryIn j n) 0 (entriesOf j n) ∙ (ap (dayIn j) i ∙ sym (g .some (λ z. omega arith) .1))
 
 read-ever : (j : List ℕ) (n : ℕ) → Good j → n ≡ entriesIn j → everOf (entriesOf j n) ≡ everIn j
 unfolding entriesOf everOf

@@ -13,33 +13,10 @@ use Rattle.journal_store.specs.Days as D
 use Rattle.journal_store.specs.Days.{Dated, lastOr, Ascends, Fits, AllFit}
 use Rattle.journal_store.specs.Entries.{entryWords, entryAt, editWords, wordsOf, wordsAt}
 use Rattle.journal_store.specs.Journals.{dayIn}
-use Rattle.journal_store.proofs.Days.{fit-end, dayAt, first-day}
+use Rattle.journal_store.proofs.Days.{last-or-end, ascends-or-end, fit-end, dayAt, first-day}
+use Rattle.journal_store.proofs.Pictures.{words-end, words-other}
 use Rattle.journal_store.proofs.Reading.{words-some, fit-some}
 use Rattle.journal_whole.specs.Checks.{entryIn, entriesOf, Entry, EntryGood, Listed, EntriesGood}
-
--- one more edit behind others
-module _ (e : Dated) where
-  ascends-more : {d : ℕ} {es : List Dated} → Ascends d es → lastOr d es ≤ e .day → Ascends d (es ++ (e ∷ []))
-  unfolding lastOr
-  ascends-more D.none h = D.next h D.none
-  ascends-more (D.next low rest) h = D.next low (ascends-more rest h)
-
-  pub last-more : (d : ℕ) (es : List Dated) → lastOr d (es ++ (e ∷ [])) ≡ e .day
-  unfolding lastOr
-  last-more d [] = refl
-  last-more d (x ∷ es) = last-more (x .day) es
-
-  words-more : (es : List Dated) (k : ℕ) → k ≡ length es → wordsAt (es ++ (e ∷ [])) k ≡ wordsOf e
-  unfolding wordsAt
-  words-more [] k z = rw z
-  words-more (x ∷ es) zero z = absurd (omega arith)
-  words-more (x ∷ es) (suc k) z = words-more es k (omega arith)
-
-  words-less : (es : List Dated) (k : ℕ) → k < length es → wordsAt (es ++ (e ∷ [])) k ≡ wordsAt es k
-  unfolding wordsAt
-  words-less [] k h = absurd (omega arith)
-  words-less (x ∷ es) zero h = refl
-  words-less (x ∷ es) (suc k) h = words-less es k (omega arith)
 
 -- the days in their order
 ascends-first : {d : ℕ} {es : List Dated} → Ascends d es → 0 < length es → d ≤ dayAt es 0
@@ -79,7 +56,7 @@ module _ (j : List ℕ) (first k last : ℕ) (g : Going j first k last) where
         let now = good .yes yes′ (omega arith) in
         record {
           size = length-append (entriesOf j k) (entryIn j k ∷ []) ∙ (ap (λ (x : ℕ). x + 1) (old .size) ∙ add-one k);
-          order = ascends-more (entryIn j k) (old .order) (omega (arith, g .days));
+          order = ascends-or-end (entryIn j k) (old .order) (omega (arith, g .days));
           fit = fit-end (entryIn j k) (old .fit) (now .fit);
           words = λ q f h less. go old now q f h less (ℕ-discrete q k);
         }
@@ -87,13 +64,13 @@ module _ (j : List ℕ) (first k last : ℕ) (g : Going j first k last) where
         go : Listed j k first (entriesOf j k) → Entry j k (entryIn j k) → (q f : ℕ) → q < suc k → f < entryWords → Dec (q ≡ k)
             → getD j (entryAt q + f) 0 ≡ getD (wordsAt (entriesOf j k ++ (entryIn j k ∷ [])) q) f 0
         go old now q f h less (yes z) =
-            rw z (now .words f less ∙ sym (ap (λ (l : List ℕ). getD l f 0) (words-more (entryIn j k) (entriesOf j k) k (sym (old .size)))))
+            rw z (now .words f less ∙ sym (ap (λ (l : List ℕ). getD l f 0) (words-end (entriesOf j k) (entryIn j k) k (sym (old .size)))))
         go old now q f h less (no z) =
-            old .words q f (omega arith) less ∙ sym (ap (λ (l : List ℕ). getD l f 0) (words-less (entryIn j k) (entriesOf j k) q (omega (arith, old .size))))
+            old .words q f (omega arith) less ∙ sym (ap (λ (l : List ℕ). getD l f 0) (words-other (entriesOf j k) (entryIn j k) q (λ e. z (e ∙ old .size))))
 
     more-days : lastOr first (entriesOf j (suc k)) ≡ day
     unfolding entriesOf
-    more-days = last-more (entryIn j k) first (entriesOf j k) ∙ sym ed
+    more-days = last-or-end (entryIn j k) first (entriesOf j k) ∙ sym ed
 
     pub going-more : Going j first (k + 1) day
     going-more = rw (add-one k) (record {

@@ -5,3 +5,4 @@ pub mod Places
 pub mod Edits
 pub mod Mornings
 pub mod Placed
+pub mod Journals

@@ -2,3 +2,4 @@ pub mod Answered
 pub mod Changed
 pub mod Mornings
 pub mod Placed
+pub mod Journals

@@ -2,9 +2,9 @@
 //
 // What is here: a function for each public call, under its plain name, none with a `requires`. Each answers the refusal's number, 0 for
 // accepted, and gives its values through lent words. What is proved: the promise of the call it stands for, told by numbers; a refusal
-// leaves what was lent as it was, on any memory (specs/Answered.antt, specs/Changed.antt, specs/Placed.antt). What a caller should know: a list
-// is a pointer and a count of 32-bit words (of positions 16-bit numbers, of points 64-bit floats), aligned to their size; what a call writes may
-// not overlap anything else that is lent to it.
+// leaves what was lent as it was, on any memory (specs/Answered.antt, specs/Changed.antt, specs/Placed.antt, specs/Journals.antt). What a
+// caller should know: a list is a pointer and a count of 32-bit words (of positions 16-bit numbers, of points 64-bit floats), aligned to their
+// size; what a call writes may not overlap anything else that is lent to it.
 ghost use Rattle.numbers.specs.Half.{halfOf};
 ghost use Rattle.numbers.specs.Sizes.{capsUnder, capacities};
 ghost use Rattle.map.specs.Answers.{cellChecks, halfChecks, starChecks, typeChecks, typeAnswer, siblingAnswer, borderAnswer, firstAnchorAnswer, lookupAnswer, countAnswer, editionAnswer};
@@ -13,9 +13,14 @@ ghost use Rattle.map.specs.Siblings.{cycle};
 ghost use Rattle.map.specs.Ways.{cycleWays};
 ghost use Rattle.map.specs.Stars.{star, anchors};
 ghost use Rattle.map.specs.History.{Insert, Remove};
+ghost use Rattle.journal_store.specs.Days.{dated};
+ghost use Rattle.journal.specs.Calls.{Begun, Entered};
+ghost use Rattle.year.specs.Calls.{OnDay, Folded};
+ghost use Rattle.journal_whole.specs.Checks.{WholeJournal};
 ghost use Rattle.positions.specs.Replies.{measureReply, centreReply};
 ghost use Rattle.mesh_c.specs.Answered.{Answered, Faced, Sought, Listed, ListedTwo, MarksTold, Judged};
 ghost use Rattle.mesh_c.specs.Changed.{Emptied, Raised, Changed};
+ghost use Rattle.mesh_c.specs.Journals.{ByNumber, ByBit};
 ghost use Rattle.mesh_c.specs.Mornings.{EditsTold};
 ghost use Rattle.mesh_c.specs.Placed.{Sized, Centre, Corners};
 use ask::border;
@@ -40,6 +45,10 @@ use edits::make_edits;
 use edits::tallied;
 use format::format;
 use format::format_edition;
+use journal::begin;
+use journal::enter_insert;
+use journal::enter_remove;
+use journal_whole::whole_journal;
 use listing::anchors;
 use listing::cells_of_type;
 use listing::cycle;
@@ -60,6 +69,8 @@ use store::Opened;
 use store::marks_place;
 use store::open;
 use whole::whole;
+use year::fold;
+use year::map_on;
 
 // A mesh of these capacities with no live cell.
 #[no_mangle]
@@ -345,4 +356,64 @@ pub extern "C" fn mk_whole(mesh: &[u32]) -> u8
     ensures { λ r. ⌜ Judged (now (mesh .entry)) r ⌝ }
 {
     if whole(mesh) { 1 } else { 0 }
+}
+
+// A journal with no entry, of this mesh, and the mesh copied into the starting map.
+#[no_mangle]
+pub extern "C" fn mk_journal_begin(mesh: &[u32], journal: &mut [u32], start: &mut [u32]) -> u8
+    ensures { λ r. ⌜ ByNumber (λ v. Begun (now (mesh .entry)) (now (journal .entry)) (now (start .entry)) v (now (journal .exit)) (now (start .exit))) r ⌝ }
+{
+    tell_verdict(begin(mesh, journal, start))
+}
+
+// A cell inserted on a day, and entered.
+#[no_mangle]
+pub extern "C" fn mk_journal_insert(
+    mesh: &mut [u32],
+    journal: &mut [u32],
+    day: u32,
+    cell: u32,
+    code: u32,
+    marks: &[u32],
+) -> u8
+    ensures { λ r. ⌜ ByNumber (λ v. Entered (now (mesh .entry)) (now (journal .entry)) (dated day (Insert cell (bodyOf code (now (marks .entry))))) v (now (mesh .exit)) (now (journal .exit))) r ⌝ }
+{
+    tell_verdict(enter_insert(mesh, journal, day, Cell(cell), code, marks))
+}
+
+// A cell removed on a day, and entered.
+#[no_mangle]
+pub extern "C" fn mk_journal_remove(
+    mesh: &mut [u32],
+    journal: &mut [u32],
+    day: u32,
+    cell: u32,
+) -> u8
+    ensures { λ r. ⌜ ByNumber (λ v. Entered (now (mesh .entry)) (now (journal .entry)) (dated day (Remove cell)) v (now (mesh .exit)) (now (journal .exit))) r ⌝ }
+{
+    tell_verdict(enter_remove(mesh, journal, day, Cell(cell)))
+}
+
+// The map of a day, written into second mesh memory.
+#[no_mangle]
+pub extern "C" fn mk_journal_on(journal: &[u32], start: &[u32], day: u32, second: &mut [u32]) -> u8
+    ensures { λ r. ⌜ ByNumber (λ v. OnDay (now (journal .entry)) (now (start .entry)) day (now (second .entry)) v (now (second .exit))) r ⌝ }
+{
+    tell_verdict(map_on(journal, start, day, second))
+}
+
+// The edits up to a day, moved into the starting map.
+#[no_mangle]
+pub extern "C" fn mk_journal_fold(journal: &mut [u32], start: &mut [u32], day: u32) -> u8
+    ensures { λ r. ⌜ ByNumber (λ v. Folded (now (journal .entry)) (now (start .entry)) day v (now (journal .exit)) (now (start .exit))) r ⌝ }
+{
+    tell_verdict(fold(journal, start, day))
+}
+
+// The whole check of journal and starting map: 1 for yes, 0 for no.
+#[no_mangle]
+pub extern "C" fn mk_journal_whole(journal: &[u32], start: &[u32]) -> u8
+    ensures { λ r. ⌜ ByBit (λ b. WholeJournal (now (journal .entry)) (now (start .entry)) b) r ⌝ }
+{
+    if whole_journal(journal, start) { 1 } else { 0 }
 }

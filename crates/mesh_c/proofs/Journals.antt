@@ -1,0 +1,16 @@
+-- A verdict told by its number, a truth by its bit.
+use mathlib.Core.Path.{_≡_}
+use mathlib.Core.Bool.{Bool, true, false, cond}
+use Prim.Native.Nat.{ℕ}
+use Rattle.map.specs.Says.{verdictSays}
+use Rattle.map.specs.declared.Verdict.{Verdict}
+use Rattle.mesh_c.specs.Journals.{ByNumber, ByBit}
+
+pub by-number : {Promise : Verdict → Type 0} (v : Verdict) (r : ℕ) → r ≡ verdictSays v .refusal → Promise v → ByNumber Promise r
+by-number v r e p = record { verdict = v; number = e; promised = p }
+
+pub by-yes : {Promise : Bool → Type 0} (b : Bool) → b ≡ true → Promise b → ByBit Promise 1
+by-yes b e p = record { truth = b; bit = rw e; promised = p }
+
+pub by-no : {Promise : Bool → Type 0} (b : Bool) → b ≡ false → Promise b → ByBit Promise 0
+by-no b e p = record { truth = b; bit = rw e; promised = p }
