@@ -1,5 +1,6 @@
 /* A complaint, start to end, from C: a viaduct over a hillside, the cells around a mark, one removed, the cells again;
- * their measures; a morning's edits in one call; and solids under the second edition.
+ * their measures; a morning's edits in one call; the same complaint for earlier days; and solids under the second
+ * edition.
  *
  *     cc -Iinclude examples/complaint.c libmesh_c.a -o complaint
  */
@@ -26,26 +27,26 @@ static void insert(uint32_t cell, uint32_t type, const uint32_t *marks, size_t c
     must(mk_insert(words, MK_ROOM(MARKS, CELLS), cell, type, marks, count));
 }
 
-static void tell(uint32_t mark)
+static void tell(const uint32_t *map, uint32_t mark)
 {
     uint32_t list[LONGEST_LIST];
     uint32_t count = 0;
     for (uint32_t dimension = 1; dimension <= 3; dimension++) {
-        must(mk_star(words, MK_ROOM(MARKS, CELLS), dimension, mark, list, LONGEST_LIST, &count));
+        must(mk_star(map, MK_ROOM(MARKS, CELLS), dimension, mark, list, LONGEST_LIST, &count));
         printf("mark %" PRIu32 ", dimension %" PRIu32 ": cells [", mark, dimension);
         for (uint32_t i = 0; i < count; i++) {
             printf("%s%" PRIu32, i == 0 ? "" : ", ", list[i]);
         }
         printf("]\n");
     }
-    must(mk_anchors(words, MK_ROOM(MARKS, CELLS), 2, mark, list, LONGEST_LIST, &count));
+    must(mk_anchors(map, MK_ROOM(MARKS, CELLS), 2, mark, list, LONGEST_LIST, &count));
     for (uint32_t i = 0; i < count; i++) {
         printf("a sheet begins at cell %" PRIu32 ", facet %" PRIu32 "\n", list[i] / 8, list[i] % 8);
     }
     /* round the edge of marks 1 and 2, and whether each two agree in direction */
     static const char *const runs[] = {"Lone", "Same", "Opposite", "Neither"};
     uint32_t ways[LONGEST_LIST];
-    must(mk_cycle(words, MK_ROOM(MARKS, CELLS), 0, 1, list, LONGEST_LIST, ways, LONGEST_LIST, &count));
+    must(mk_cycle(map, MK_ROOM(MARKS, CELLS), 0, 1, list, LONGEST_LIST, ways, LONGEST_LIST, &count));
     for (uint32_t i = 0; i < count; i++) {
         printf("cell %" PRIu32 ", facet %" PRIu32 ": the next runs %s\n", list[i] / 8, list[i] % 8, runs[ways[i]]);
     }
@@ -79,6 +80,30 @@ static void morning(void)
     printf("%" PRIu32 " accepted, %" PRIu32 " refused\n", tally[0], tally[1]);
 }
 
+/* from here on the map is edited through a journal: the same complaint for earlier days */
+static void days(void)
+{
+    static uint32_t journal[MK_JOURNAL_WORDS(1000)];
+    static uint32_t start[MK_ROOM(MARKS, CELLS)];
+    static uint32_t then[MK_ROOM(MARKS, CELLS)];
+    static const uint32_t asked[] = {99, 129, 130};
+    const size_t room = MK_ROOM(MARKS, CELLS), size = MK_JOURNAL_WORDS(1000);
+    must(mk_journal_begin(words, room, journal, size, start, room));
+    must(mk_journal_insert(words, room, journal, size, 100, 1, MK_TRI_3, (const uint32_t[]){1, 3, 2}, 3));
+    must(mk_journal_remove(words, room, journal, size, 130, 3));
+    for (size_t i = 0; i < sizeof asked / sizeof asked[0]; i++) {
+        must(mk_journal_on(journal, size, start, room, asked[i], then, room));
+        printf("on day %" PRIu32 "\n", asked[i]);
+        tell(then, 2);
+    }
+    uint8_t refusal = mk_journal_fold(journal, size, start, room, 100);
+    if (refusal == 0) {
+        printf("day 100 is folded\n");
+    } else {
+        printf("a fold is refused with %d\n", refusal);
+    }
+}
+
 /* under the second edition a face lies between two solids at most */
 static void harbour(void)
 {
@@ -107,10 +132,10 @@ int main(void)
     insert(3, MK_QUAD_4, (const uint32_t[]){1, 2, 6, 7}, 4);
     insert(4, MK_BAR_2, (const uint32_t[]){2, 8}, 2);
 
-    tell(2);
+    tell(words, 2);
     printf("cell 1 is taken down\n");
     must(mk_remove(words, MK_ROOM(MARKS, CELLS), 1));
-    tell(2);
+    tell(words, 2);
 
     uint8_t refusal = mk_insert(words, MK_ROOM(MARKS, CELLS), 5, MK_TRI_3, (const uint32_t[]){2, 0, 1}, 3);
     if (refusal == 0) {
@@ -122,6 +147,7 @@ int main(void)
     survey(3);
     survey(4);
     morning();
+    days();
     harbour();
     return 0;
 }

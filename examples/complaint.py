@@ -1,7 +1,7 @@
 #!/usr/bin/env python3
 """A complaint, start to end, from Python: a viaduct over a hillside, the cells
 around a mark, one removed, the cells again; their measures; a morning's edits in
-one call; and solids under the second edition.
+one call; the same complaint for earlier days; and solids under the second edition.
 
 usage: complaint.py LIBRARY
 LIBRARY is the proved library as a shared library, as README.md makes it.
@@ -125,6 +125,43 @@ class Map:
             raise Refused(number)
 
 
+class Journal:
+    """The edits of a map with their days, and the map as it was before them."""
+
+    def __init__(self, map_, edits):
+        self.map = map_
+        self.words = (ctypes.c_uint32 * (16 + 16 * edits))()
+        self.start = (ctypes.c_uint32 * len(map_.words))()
+        self.map._call("mk_journal_begin", *sized(self.words), *sized(self.start))
+
+    def insert(self, day, cell, code, marks):
+        given = [ctypes.c_uint32(number) for number in (day, cell, code)]
+        list_ = (ctypes.c_uint32 * len(marks))(*marks)
+        self.map._call("mk_journal_insert", *sized(self.words), *given, *sized(list_))
+
+    def remove(self, day, cell):
+        given = [ctypes.c_uint32(number) for number in (day, cell)]
+        self.map._call("mk_journal_remove", *sized(self.words), *given)
+
+    def on(self, day, second):
+        """Makes the words of the second map the map on that day."""
+        self._call("mk_journal_on", ctypes.c_uint32(day), *sized(second.words))
+
+    def fold(self, day):
+        self._call("mk_journal_fold", ctypes.c_uint32(day))
+
+    def _call(self, name, *rest):
+        call = getattr(self.map.calls, name)
+        call.restype = ctypes.c_uint8
+        number = call(*sized(self.words), *sized(self.start), *rest)
+        if number:
+            raise Refused(number)
+
+
+def sized(words):
+    return words, ctypes.c_size_t(len(words))
+
+
 def tell(map_, mark):
     for dimension in (1, 2, 3):
         print(f"mark {mark}, dimension {dimension}: cells {map_.star(dimension, mark)}")
@@ -170,6 +207,21 @@ def main():
     made, stopped = map_.edits(morning, tally)
     print(f"{made} edits made" + (f", then {stopped.number}" if stopped else ""))
     print(f"{tally[0]} accepted, {tally[1]} refused")
+
+    # from here on the map is edited through a journal: the same complaint for earlier days
+    journal = Journal(map_, 1000)
+    journal.insert(100, 1, TRIANGLE, [1, 3, 2])
+    journal.remove(130, 3)
+    then = Map(map_.calls, 9, 8)
+    for day in (99, 129, 130):
+        journal.on(day, then)
+        print(f"on day {day}")
+        tell(then, 2)
+    try:
+        journal.fold(100)
+        print("day 100 is folded")
+    except Refused as refused:
+        print(f"a fold is {refused}")
 
     # under the second edition a face lies between two solids at most
     harbour = Map(map_.calls, 6, 4, SECOND_EDITION)

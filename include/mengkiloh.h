@@ -5,9 +5,9 @@
  * proved to meet its promise (crates/mesh_c/specs); none allocates, and none keeps anything between
  * calls: all of a mesh stands in the words that the caller lends.
  *
- * Every call but mk_whole answers a refusal number: 0 if it is accepted, else why it is refused
- * (enum mk_refusal). Values come through pointers, and only where the call is accepted: a refused
- * call leaves everything that was lent as it was. The exceptions are builds and mk_edits.
+ * Every call but the two whole checks answers a refusal number: 0 if it is accepted, else why it is
+ * refused (enum mk_refusal). Values come through pointers, and only where the call is accepted: a
+ * refused call leaves everything that was lent as it was. The exceptions are builds and mk_edits.
  *
  * A list is a pointer and a count of 32-bit words, of positions one of 16-bit numbers, of points one
  * of 64-bit floats. A list's pointer and the pointer of a single number are aligned to the size of
@@ -281,6 +281,67 @@ uint8_t mk_measure(const uint32_t *mesh, size_t words, const int16_t *positions,
  * Its time grows with the marks, the cells and the stars of the marks.
  */
 uint8_t mk_whole(const uint32_t *mesh, size_t words);
+
+/*
+ * The map on any day. A journal beside the mesh keeps each accepted edit with its day, 0 to 65,535, and a
+ * starting map keeps the mesh as it was before them. Mesh, journal, starting map and the second memory
+ * that a day's map is written into are four memories of the caller's. From mk_journal_begin on the mesh
+ * is edited by mk_journal_insert and mk_journal_remove alone.
+ *
+ * MK_NOT_MESH comes first in each call: for a mesh or a starting map that is none, for a journal that is
+ * none, and for a journal of other capacities or another edition. It never comes for memory that these
+ * calls alone have written since the journal began. What a call answers, and what it writes, is promised
+ * for such memory; on any other words it is safe, returns, leaves what was lent as it was where it is
+ * refused, and writes within a mesh's room and within the journal's edits alone.
+ */
+
+/* The words that a journal of so many edits takes: a head of 16, then 16 an edit, as many as fit. */
+#define MK_JOURNAL_WORDS(edits) ((size_t)16 + (size_t)16 * (size_t)(edits))
+
+/*
+ * Begin: a journal of this mesh with no edit, and the mesh copied into the starting map, which needs the
+ * mesh's room. Refused with 14, 2 for a journal under 16 words or a starting map below the room. A journal of
+ * 16 to 31 words holds no edit.
+ */
+uint8_t mk_journal_begin(const uint32_t *mesh, size_t words, uint32_t *journal, size_t journal_words,
+                         uint32_t *start, size_t start_words);
+
+/*
+ * Insert on a day: as mk_insert, and the edit entered. Refused with 14, 1 for a day above 65,535, 20 for a
+ * day before that of the last edit, then as mk_insert, 23 for a full journal.
+ */
+uint8_t mk_journal_insert(uint32_t *mesh, size_t words, uint32_t *journal, size_t journal_words, uint32_t day,
+                          uint32_t cell, uint32_t type, const uint32_t *marks, size_t count);
+
+/*
+ * Remove on a day: as mk_remove, and the edit entered. Refused with 14, 1, 20, then as mk_remove, 23.
+ */
+uint8_t mk_journal_remove(uint32_t *mesh, size_t words, uint32_t *journal, size_t journal_words, uint32_t day,
+                          uint32_t cell);
+
+/*
+ * On a day: the first words of second become the mesh that all edits of that day and earlier ones leave,
+ * word for word; a day after the last reads as the last. Its time grows with the room and with the edits
+ * from the last fold up to the day. Refused with 14, 21 for a day before the last fold, 2.
+ */
+uint8_t mk_journal_on(const uint32_t *journal, size_t journal_words, const uint32_t *start, size_t start_words,
+                      uint32_t day, uint32_t *second, size_t second_words);
+
+/*
+ * Fold: the edits up to that day are made in the starting map, and their room in the journal is free again.
+ * The map on that day and on each later one stays as it was. Allowed if an edit was ever entered, the day is
+ * not before that of the earlier fold, and the day + 366 is not after that of the last edit. Refused with 14, 22.
+ */
+uint8_t mk_journal_fold(uint32_t *journal, size_t journal_words, uint32_t *start, size_t start_words,
+                        uint32_t day);
+
+/*
+ * Whole check of a journal and its starting map: 1 if they are what some map and some dated edits leave, each
+ * word of the journal's use and the starting map by its own whole check, else 0. It never refuses. It makes
+ * no edit: that each would be accepted at its turn it does not say.
+ */
+uint8_t mk_journal_whole(const uint32_t *journal, size_t journal_words, const uint32_t *start,
+                         size_t start_words);
 
 #ifdef __cplusplus
 }

@@ -1,9 +1,11 @@
 //! A complaint, start to end: a viaduct over a hillside, the cells around a
 //! mark, one removed, the cells again; their measures; a morning's edits in one
-//! call; and solids under the second edition.
+//! call; the same complaint for earlier days; and solids under the second
+//! edition.
 //!
 //! `cargo run --example complaint`
 
+use mengkiloh::{journal_words, room, Journal};
 use mengkiloh::{Cell, Edition, Edits, Mark, Measure, Mesh, Refusal, Tally, Type};
 
 /// Three whole metres a mark.
@@ -60,6 +62,24 @@ fn main() -> Result<(), Refusal> {
         }
     }
     println!("{} accepted, {} refused", tally.accepted, tally.refused);
+
+    // from here on the map is edited through a journal: the same complaint for
+    // earlier days
+    let mut journal = Journal::over(vec![0; journal_words(1_000)], vec![0; room(9, 8)]);
+    journal.begin(&map)?;
+    let marks = [1, 3, 2].map(Mark);
+    journal.insert(&mut map, 100, Cell(1), Type::Triangle, &marks)?;
+    journal.remove(&mut map, 130, Cell(3))?;
+    let mut then = Mesh::with_room(9, 8)?;
+    for day in [99, 129, 130] {
+        journal.on(day, &mut then)?;
+        println!("on day {day}");
+        tell(&then, Mark(2))?;
+    }
+    match journal.fold(100) {
+        Ok(()) => println!("day 100 is folded"),
+        Err(refusal) => println!("a fold is refused with {}", refusal.number()),
+    }
 
     // under the second edition a face lies between two solids at most
     let mut harbour = Mesh::with_room_edition(6, 4, Edition::Second)?;

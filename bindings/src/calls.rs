@@ -150,4 +150,53 @@ extern "C" {
         measure: *mut f64,
     ) -> u8;
     pub fn mk_whole(mesh: *const u32, words: usize) -> u8;
+    pub fn mk_journal_begin(
+        mesh: *const u32,
+        words: usize,
+        journal: *mut u32,
+        journal_words: usize,
+        start: *mut u32,
+        start_words: usize,
+    ) -> u8;
+    pub fn mk_journal_insert(
+        mesh: *mut u32,
+        words: usize,
+        journal: *mut u32,
+        journal_words: usize,
+        day: u32,
+        cell: u32,
+        code: u32,
+        marks: *const u32,
+        count: usize,
+    ) -> u8;
+    pub fn mk_journal_remove(
+        mesh: *mut u32,
+        words: usize,
+        journal: *mut u32,
+        journal_words: usize,
+        day: u32,
+        cell: u32,
+    ) -> u8;
+    pub fn mk_journal_on(
+        journal: *const u32,
+        journal_words: usize,
+        start: *const u32,
+        start_words: usize,
+        day: u32,
+        second: *mut u32,
+        second_words: usize,
+    ) -> u8;
+    pub fn mk_journal_fold(
+        journal: *mut u32,
+        journal_words: usize,
+        start: *mut u32,
+        start_words: usize,
+        day: u32,
+    ) -> u8;
+    pub fn mk_journal_whole(
+        journal: *const u32,
+        journal_words: usize,
+        start: *const u32,
+        start_words: usize,
+    ) -> u8;
 }

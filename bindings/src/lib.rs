@@ -39,15 +39,18 @@
 //! Every call is one of the proved library's, which this crate links; it adds
 //! no rule of its own. A call that is refused changes nothing and gives the
 //! [`Refusal`] with its number; a build refused at a record leaves a mesh with no
-//! cell, and a list of [`Edits`] that is stopped leaves those before.
+//! cell, and a list of [`Edits`] that is stopped leaves those before. A
+//! [`Journal`] keeps each edit with its day and gives the map on any of them.
 
 mod calls;
+mod journal;
 mod numbers;
 mod records;
 mod refusal;
 
 use std::fmt;
 
+pub use journal::{journal_words, Journal};
 use numbers::Register;
 pub use numbers::{Cell, Half, Mark, Way};
 pub use records::{Edits, Records, Tally};

@@ -33,7 +33,10 @@ fn ours() -> Vec<String> {
 #[test]
 fn numbers_are_those_of_the_table() {
     let numbers = Refusal::ALL.map(Refusal::number);
-    assert!(numbers.iter().copied().eq((1..=14).chain([16]).chain(19..=23)));
+    assert!(numbers
+        .iter()
+        .copied()
+        .eq((1..=14).chain([16]).chain(19..=23)));
 }
 
 #[test]

@@ -1,5 +1,6 @@
 //! What the examples of the library say, by the definitions.
 
+use second::journal::{Edit, Journal, EDIT_WORDS, HEAD_WORDS};
 use second::{room, Memory, Refusal, Tally};
 
 #[rustfmt::skip]
@@ -41,6 +42,27 @@ fn main() -> Result<(), Refusal> {
         Err((refusal, made)) => println!("{made} edits made, then {}", refusal.number()),
     }
     println!("{} accepted, {} refused", tally.accepted, tally.refused);
+
+    let mut journal = Journal::lent(HEAD_WORDS + 1_000 * EDIT_WORDS);
+    let mut start = Memory::lent(room(9, 8));
+    journal.begin(&map, &mut start)?;
+    let again = Edit::Insert {
+        cell: 1,
+        code: 2,
+        marks: vec![1, 3, 2],
+    };
+    journal.enter(&mut map, 100, again)?;
+    journal.enter(&mut map, 130, Edit::Remove { cell: 3 })?;
+    let mut then = Memory::lent(room(9, 8));
+    for day in [99, 129, 130] {
+        journal.on(&start, day, &mut then)?;
+        println!("on day {day}");
+        tell(&then, 2)?;
+    }
+    match journal.fold(&mut start, 100) {
+        Ok(()) => println!("day 100 is folded"),
+        Err(refusal) => println!("a fold is refused with {}", refusal.number()),
+    }
 
     let mut harbour = Memory::lent(room(6, 4));
     harbour.format_edition(6, 4, 2)?;
