@@ -5,7 +5,7 @@ mod common;
 
 use std::collections::BTreeSet;
 
-use common::{marks, ours, records, theirs, told, Chance, Question, SENTINEL};
+use common::{is_map, marks, ours, theirs, told, Chance, Question, SENTINEL};
 use mengkiloh::{journal_words, room, Cell, Journal, Mesh};
 use second::journal::{Edit, Journal as TheirJournal, EDIT_WORDS, HEAD_WORDS};
 use second::Memory;
@@ -171,16 +171,6 @@ impl Desk {
         assert_eq!(self.journal.words()[..journal.len()], journal);
         assert!(Journal::over(self.journal.words(), self.start.words()).whole());
     }
-}
-
-/// The words are those of a fresh build of the second program's cells.
-fn is_map(words: &[u32], theirs: &Memory) {
-    let mesh = theirs.mesh.as_ref().expect("a mesh");
-    let mut fresh = Mesh::over(vec![0; room(mesh.marks, mesh.cells)]);
-    fresh
-        .build_edition(mesh.marks, mesh.cells, mesh.edition, &records(&mesh.live))
-        .expect("live cells can be built");
-    assert!(words[..fresh.words().len()] == *fresh.words());
 }
 
 /// The words of a journal that was kept (docs/LAYOUT.md).

@@ -4,7 +4,7 @@
 
 use std::sync::OnceLock;
 
-use mengkiloh::{Cell, Half, Mark, Measure, Mesh, Records, Refusal};
+use mengkiloh::{room, Cell, Half, Mark, Measure, Mesh, Records, Refusal};
 use second::map::LiveCell;
 use second::positions::float;
 use second::shapes::type_with_code;
@@ -331,4 +331,14 @@ pub fn records<'a>(cells: impl IntoIterator<Item = &'a LiveCell>) -> Records {
         records.add(Cell(cell.number.0), cell.row.code, &marks);
     }
     records
+}
+
+/// The words of the room are those of a fresh build of the second program's cells.
+pub fn is_map(words: &[u32], theirs: &Memory) {
+    let mesh = theirs.mesh.as_ref().expect("a mesh");
+    let mut fresh = Mesh::over(vec![0; room(mesh.marks, mesh.cells)]);
+    fresh
+        .build_edition(mesh.marks, mesh.cells, mesh.edition, &records(&mesh.live))
+        .expect("live cells can be built");
+    assert!(words[..fresh.words().len()] == *fresh.words());
 }
