@@ -1,11 +1,12 @@
 //! Nanoseconds a call: the proved library beside a plain-Rust hash map of
 //! facet sets, in one run on one machine; with `switchboard` and files of surfaces,
 //! what request 11 asks; with `once` and the name of a map, its edits made once, to be
-//! counted from outside.
+//! counted from outside; with `journal`, the map on any day.
 
 mod clock;
 mod facet_map;
 mod facet_sets;
+mod journal;
 mod maps;
 mod switchboard;
 
@@ -35,6 +36,7 @@ fn main() {
     match words.split_first() {
         Some((word, files)) if word == "switchboard" => switchboard::run(files),
         Some((word, names)) if word == "once" => switchboard::once(names),
+        Some((word, _)) if word == "journal" => journal::run(),
         _ => calls(),
     }
 }
