@@ -89,18 +89,18 @@ module _ (f : ℕ → ℕ) (o : List ℕ) where
 
 -- a mark of an insert
 unfoldable pub markAt : List ℕ → ℕ → ℕ
-markAt line i = numberAt (bytesOf line) (4 + 2 * i)
+markAt line i = numberAt (bytesOf line) (6 + 2 * i)
 
 module _ (line o : List ℕ) where
-  pub marks-none : length line / 2 < 4 → Marked (marksFrom (bytesOf line)) o 0 o
+  pub marks-none : length line / 2 < 6 → Marked (marksFrom (bytesOf line)) o 0 o
   unfolding marksFrom listOf
   marks-none h =
-      let e : (length (bytesOf line) - 4) / 2 ≡ 0 = omega (arith, bytes-length line) in
+      let e : (length (bytesOf line) - 6) / 2 ≡ 0 = omega (arith, bytes-length line) in
       record { count = rw e; words = rw e }
 
-  pub marks-all : (i n : ℕ) (o′ : List ℕ) → n ≡ (length line / 2 - 4) / 2 → i ≤ n → n ≤ i → o′ ≡ sets o 0 (listOf i (markAt line)) → Marked (marksFrom (bytesOf line)) o n o′
+  pub marks-all : (i n : ℕ) (o′ : List ℕ) → n ≡ (length line / 2 - 6) / 2 → i ≤ n → n ≤ i → o′ ≡ sets o 0 (listOf i (markAt line)) → Marked (marksFrom (bytesOf line)) o n o′
   unfolding marksFrom markAt
   marks-all i n o′ e a b g =
       let same : i ≡ n = omega arith in
-      let size : (length (bytesOf line) - 4) / 2 ≡ n = omega (arith, bytes-length line) in
+      let size : (length (bytesOf line) - 6) / 2 ≡ n = omega (arith, bytes-length line) in
       record { count = rw size (sym (length-listOf n (markAt line))); words = rw size (rw same at g) }

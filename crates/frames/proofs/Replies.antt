@@ -8,20 +8,14 @@ use borrow.Author.Tests.{le-ltb}
 use lib.Dec.{ltb}
 use lib.ListN.{getD, length}
 use Rattle.numbers.specs.Half.{halfOf}
-use Rattle.numbers.specs.Sizes.{mostCapacity, capacities}
-use Rattle.numbers.specs.Editions.{isEdition}
-use Rattle.numbers.specs.Room.{room}
 use Rattle.map.specs.declared.Refusal.{Refusal}
 use Rattle.map.specs.declared.Refusal.the-variants.{CapacityAbove, BadFrame}
-use Rattle.map.specs.declared.Verdict.{Verdict}
-use Rattle.map.specs.declared.Verdict.the-variants.{Refused}
-use Rattle.map.specs.Cells.{Map}
+use Rattle.map.specs.declared.Verdict.the-variants.{Accepted, Refused}
 use Rattle.map.specs.Siblings.{sibling}
 use Rattle.map.specs.Ways.{wayNumber, way}
-use Rattle.map.specs.History.{empty}
-use Rattle.map.specs.Answers.{Check, Answer, _when_, answer, listAnswer, formatChecks, halfChecks, siblingAnswer}
+use Rattle.map.specs.Answers.{Check, Answer, _when_, answer, listAnswer, halfChecks, siblingAnswer}
 use Rattle.map.specs.Says.{given, refused, verdictSays}
-use Rattle.frames.specs.Frames.{Format, Sibling, Bad, siblingBytes, replyTo, mapAfter}
+use Rattle.frames.specs.Frames.{Journal, begun, today, Format, Sibling, Bad, siblingBytes, replyTo, journalAfter}
 
 -- a call that gives values tells of its checks, whatever they are asked for
 module _ (value : ℕ) (more values : List ℕ) where
@@ -69,45 +63,42 @@ module _ (checks : List Check) (l values : List ℕ) (places : ℕ) (h : length 
   pub list-refused : (why : Refusal) → refused why ≡ listAnswer checks l places → answer checks values ≡ refused why
   list-refused why e = answer-refused (length l) [] values checks why (e ∙ fitting checks l places h)
 
-module _ (m : Map) where
+module _ (g : Journal) (marks cells : ℕ) where
   -- "The program keeps at most 384 marks and 384 cells; more is refused with 1."
-  pub reply-above : (marks cells : ℕ) → ltb 384 marks || ltb 384 cells ≡ true → replyTo m (Format marks cells) ≡ verdictSays (Refused CapacityAbove)
+  pub reply-above : ltb 384 marks || ltb 384 cells ≡ true → replyTo g (Format marks cells) ≡ verdictSays (Refused CapacityAbove)
   unfolding replyTo answer _when_ verdictSays refused
-  reply-above marks cells e = rw e
+  reply-above e = rw e
 
-  pub reply-format : (marks cells words : ℕ) (v : Verdict) → marks ≤ 384 → cells ≤ 384 → room 384 384 ≤ words
-      → verdictSays v ≡ answer (formatChecks words (capacities marks cells)) [] → replyTo m (Format marks cells) ≡ verdictSays v
-  unfolding replyTo answer formatChecks _when_ isEdition room
-  reply-format marks cells words v a b h e =
-      sym
-      (e
-      ∙ rw (le-ltb mostCapacity marks (omega arith), le-ltb mostCapacity cells (omega arith), le-ltb words (room marks cells) (omega arith), le-ltb 384 marks a, le-ltb 384 cells b))
+  pub journal-above : ltb 384 marks || ltb 384 cells ≡ true → journalAfter g (Format marks cells) ≡ g
+  unfolding journalAfter replyTo answer _when_
+  journal-above e = rw e
 
-  pub map-format : (marks cells : ℕ) → marks ≤ 384 → cells ≤ 384 → mapAfter m (Format marks cells) ≡ empty (capacities marks cells)
-  unfolding mapAfter replyTo answer _when_
-  map-format marks cells a b = rw (le-ltb 384 marks a, le-ltb 384 cells b)
+  pub reply-format : marks ≤ 384 → cells ≤ 384 → replyTo g (Format marks cells) ≡ verdictSays Accepted
+  unfolding replyTo answer _when_ verdictSays given
+  reply-format a b = rw (le-ltb 384 marks a, le-ltb 384 cells b)
 
-  pub map-above : (marks cells : ℕ) → ltb 384 marks || ltb 384 cells ≡ true → mapAfter m (Format marks cells) ≡ m
-  unfolding mapAfter replyTo answer _when_
-  map-above marks cells e = rw e
+  pub journal-format : marks ≤ 384 → cells ≤ 384 → journalAfter g (Format marks cells) ≡ begun (g .places) marks cells
+  unfolding journalAfter replyTo answer _when_
+  journal-format a b = rw (le-ltb 384 marks a, le-ltb 384 cells b)
 
+module _ (g : Journal) where
   bytes : ℕ → List ℕ
-  bytes h = siblingBytes (sibling m h) (wayNumber (way m h))
+  bytes h = siblingBytes (sibling (today g) h) (wayNumber (way (today g) h))
 
-  pub reply-sibling : (c f h n : ℕ) → given (h ∷ n ∷ []) ≡ siblingAnswer m c f → replyTo m (Sibling c f) ≡ given (siblingBytes h n)
+  pub reply-sibling : (c f h n : ℕ) → given (h ∷ n ∷ []) ≡ siblingAnswer (today g) c f → replyTo g (Sibling c f) ≡ given (siblingBytes h n)
   unfolding replyTo siblingAnswer bytes
   reply-sibling c f h n e =
       let k : ℕ = halfOf c f in
-      let r = answer-given (sibling m k) (wayNumber (way m k) ∷ []) (bytes k) (halfChecks m c f) h (n ∷ []) e in
-      let first : h ≡ sibling m k = ap (λ (x : List ℕ). getD x 0 0) (r .0) in
-      let second : n ≡ wayNumber (way m k) = ap (λ (x : List ℕ). getD x 1 0) (r .0) in
+      let r = answer-given (sibling (today g) k) (wayNumber (way (today g) k) ∷ []) (bytes k) (halfChecks (today g) c f) h (n ∷ []) e in
+      let first : h ≡ sibling (today g) k = ap (λ (x : List ℕ). getD x 0 0) (r .0) in
+      let second : n ≡ wayNumber (way (today g) k) = ap (λ (x : List ℕ). getD x 1 0) (r .0) in
       r .1 ∙ rw (first, second)
 
-  pub reply-sibling-refused : (c f : ℕ) (why : Refusal) → refused why ≡ siblingAnswer m c f → replyTo m (Sibling c f) ≡ refused why
+  pub reply-sibling-refused : (c f : ℕ) (why : Refusal) → refused why ≡ siblingAnswer (today g) c f → replyTo g (Sibling c f) ≡ refused why
   unfolding replyTo siblingAnswer bytes
   reply-sibling-refused c f why e =
-      answer-refused (sibling m (halfOf c f)) (wayNumber (way m (halfOf c f)) ∷ []) (bytes (halfOf c f)) (halfChecks m c f) why e
+      answer-refused (sibling (today g) (halfOf c f)) (wayNumber (way (today g) (halfOf c f)) ∷ []) (bytes (halfOf c f)) (halfChecks (today g) c f) why e
 
-  pub reply-bad : replyTo m Bad ≡ verdictSays (Refused BadFrame)
+  pub reply-bad : replyTo g Bad ≡ verdictSays (Refused BadFrame)
   unfolding replyTo answer _when_ verdictSays refused
   reply-bad = refl

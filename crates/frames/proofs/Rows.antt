@@ -23,11 +23,11 @@ module _ (line : List ℕ) (code : ℕ) (is : code ≡ getD (bytesOf line) 0 0) 
   unfolding frameIn rows meaning _sized_means_
   format-row e = rw (← is, e)
 
-  insert-row : code ≡ 160 → frameIn (bytesOf line) ≡ cond (leb 4 (length (bytesOf line)) && eqb (length (bytesOf line) % 2) 0) (Change (Insert (numberAt (bytesOf line) 1) (bodyOf (getD (bytesOf line) 3 0) (marksFrom (bytesOf line))))) Bad
+  insert-row : code ≡ 160 → frameIn (bytesOf line) ≡ cond (leb 6 (length (bytesOf line)) && eqb (length (bytesOf line) % 2) 0) (Change (numberAt (bytesOf line) 1) (Insert (numberAt (bytesOf line) 3) (bodyOf (getD (bytesOf line) 5 0) (marksFrom (bytesOf line))))) Bad
   unfolding frameIn rows meaning _sized_means_
   insert-row e = rw (← is, e)
 
-  remove-row : code ≡ 208 → frameIn (bytesOf line) ≡ cond (eqb (length (bytesOf line)) 3) (Change (Remove (numberAt (bytesOf line) 1))) Bad
+  remove-row : code ≡ 208 → frameIn (bytesOf line) ≡ cond (eqb (length (bytesOf line)) 5) (Change (numberAt (bytesOf line) 1) (Remove (numberAt (bytesOf line) 3))) Bad
   unfolding frameIn rows meaning _sized_means_
   remove-row e = rw (← is, e)
 
@@ -60,13 +60,13 @@ module _ (line : List ℕ) (code : ℕ) (is : code ≡ getD (bytesOf line) 0 0) 
   pub format-no : code ≡ 240 → (length line / 2 ≡ 5 → ⊥) → Frame′.Bad ≡ carried (frameIn (bytesOf line))
   format-no e size = row-none 5 _ (format-row e) size
 
-  pub remove-yes : (a : ℕ) → code ≡ 208 → length line / 2 ≡ 3 → a ≡ numberAt (bytesOf line) 1
-      → Frame′.Remove (record { 0 = a }) ≡ carried (frameIn (bytesOf line))
+  pub remove-yes : (a b : ℕ) → code ≡ 208 → length line / 2 ≡ 5 → a ≡ numberAt (bytesOf line) 1 → b ≡ numberAt (bytesOf line) 3
+      → Frame′.Remove a (record { 0 = b }) ≡ carried (frameIn (bytesOf line))
   unfolding carried
-  remove-yes a e size f = rw f (row-fits 3 _ (remove-row e) size)
+  remove-yes a b e size f g = rw (f, g) (row-fits 5 _ (remove-row e) size)
 
-  pub remove-no : code ≡ 208 → (length line / 2 ≡ 3 → ⊥) → Frame′.Bad ≡ carried (frameIn (bytesOf line))
-  remove-no e size = row-none 3 _ (remove-row e) size
+  pub remove-no : code ≡ 208 → (length line / 2 ≡ 5 → ⊥) → Frame′.Bad ≡ carried (frameIn (bytesOf line))
+  remove-no e size = row-none 5 _ (remove-row e) size
 
   pub star-yes : (a b : ℕ) → code ≡ 80 → length line / 2 ≡ 4 → a ≡ getD (bytesOf line) 1 0 → b ≡ numberAt (bytesOf line) 2
       → Frame′.Star a (record { 0 = b }) ≡ carried (frameIn (bytesOf line))
@@ -104,16 +104,16 @@ module _ (line : List ℕ) (code : ℕ) (is : code ≡ getD (bytesOf line) 0 0) 
   none-of f a d s n b = ap carried (sym (unknown f (λ e. a (sym is ∙ e)) d s n b))
 
   -- "half a mark", or an insert that stops before its type's end
-  pub insert-short : code ≡ 160 → length line / 2 < 4 → frameIn (bytesOf line) ≡ Bad
-  insert-short e h = insert-row e ∙ rw (bytes-length line, lt-leb 4 (length line / 2) h)
+  pub insert-short : code ≡ 160 → length line / 2 < 6 → frameIn (bytesOf line) ≡ Bad
+  insert-short e h = insert-row e ∙ rw (bytes-length line, lt-leb 6 (length line / 2) h)
 
-  pub insert-half : code ≡ 160 → 4 ≤ length line / 2 → length line / 2 % 2 ≡ 1 → frameIn (bytesOf line) ≡ Bad
-  insert-half e h odd = insert-row e ∙ rw (bytes-length line, le-leb 4 (length line / 2) h, odd)
+  pub insert-half : code ≡ 160 → 6 ≤ length line / 2 → length line / 2 % 2 ≡ 1 → frameIn (bytesOf line) ≡ Bad
+  insert-half e h odd = insert-row e ∙ rw (bytes-length line, le-leb 6 (length line / 2) h, odd)
 
-  pub insert-whole : code ≡ 160 → 4 ≤ length line / 2 → (length line / 2 % 2 ≡ 1 → ⊥)
-      → frameIn (bytesOf line) ≡ Change (Insert (numberAt (bytesOf line) 1) (bodyOf (getD (bytesOf line) 3 0) (marksFrom (bytesOf line))))
+  pub insert-whole : code ≡ 160 → 6 ≤ length line / 2 → (length line / 2 % 2 ≡ 1 → ⊥)
+      → frameIn (bytesOf line) ≡ Change (numberAt (bytesOf line) 1) (Insert (numberAt (bytesOf line) 3) (bodyOf (getD (bytesOf line) 5 0) (marksFrom (bytesOf line))))
   insert-whole e h even =
-      insert-row e ∙ rw (bytes-length line, le-leb 4 (length line / 2) h, eq-eqb (length line / 2 % 2) 0 (omega arith))
+      insert-row e ∙ rw (bytes-length line, le-leb 6 (length line / 2) h, eq-eqb (length line / 2 % 2) 0 (omega arith))
 
 -- what holds of each row of a code, and of a bad frame, holds of the code's meaning
 module _ (P : Frame → Type 0) (code : ℕ) where
@@ -140,11 +140,11 @@ no-marks line code is ne =
     ((λ e. refl), ((λ e. absurd (ne (sym e))), ((λ e. refl), ((λ e. refl), ((λ e. refl), ((λ e. refl), tt)))))))
 
 -- an insert names at most as many as its bytes hold
-some-marks : (line : List ℕ) → length (marksCarried (frameIn (bytesOf line))) ≤ (length line / 2 - 4) / 2
+some-marks : (line : List ℕ) → length (marksCarried (frameIn (bytesOf line))) ≤ (length line / 2 - 6) / 2
 unfolding frameIn rows Each _sized_means_ marksCarried marksFrom
 some-marks line =
-    meaning-each (λ f. length (marksCarried f) ≤ (length line / 2 - 4) / 2) (getD (bytesOf line) 0 0) (rows (bytesOf line)) (omega arith)
-    ((λ e. omega arith), ((λ e. omega (arith, bytes-length line, length-listOf ((length (bytesOf line) - 4) / 2) (λ i. numberAt (bytesOf line) (4 + 2 * i)))), ((λ e. omega arith), ((λ e. omega arith), ((λ e. omega arith), ((λ e. omega arith), tt))))))
+    meaning-each (λ f. length (marksCarried f) ≤ (length line / 2 - 6) / 2) (getD (bytesOf line) 0 0) (rows (bytesOf line)) (omega arith)
+    ((λ e. omega arith), ((λ e. omega (arith, bytes-length line, length-listOf ((length (bytesOf line) - 6) / 2) (λ i. numberAt (bytesOf line) (6 + 2 * i)))), ((λ e. omega arith), ((λ e. omega arith), ((λ e. omega arith), ((λ e. omega arith), tt))))))
 
 -- what a read leaves, by the frame
 module _ (line o : List ℕ) where
@@ -170,20 +170,20 @@ module _ (line o : List ℕ) where
   read-fixed code r is e ne f =
       rw (good-frame e) (record { frame = f (λ g. ne (is ∙ g)); marks = rw (no-marks line code is ne) })
 
-  pub read-insert : (a b n : ℕ) (o′ : List ℕ) → badLine line ≡ false
-      → frameIn (bytesOf line) ≡ Change (Insert (numberAt (bytesOf line) 1) (bodyOf (getD (bytesOf line) 3 0) (marksFrom (bytesOf line))))
-      → a ≡ numberAt (bytesOf line) 1 → b ≡ getD (bytesOf line) 3 0 → Marked (marksFrom (bytesOf line)) o n o′
-      → Reading (frameOf line) o (Frame′.Insert (record { 0 = a }) b n) o′
+  pub read-insert : (day a b n : ℕ) (o′ : List ℕ) → badLine line ≡ false
+      → frameIn (bytesOf line) ≡ Change (numberAt (bytesOf line) 1) (Insert (numberAt (bytesOf line) 3) (bodyOf (getD (bytesOf line) 5 0) (marksFrom (bytesOf line))))
+      → day ≡ numberAt (bytesOf line) 1 → a ≡ numberAt (bytesOf line) 3 → b ≡ getD (bytesOf line) 5 0 → Marked (marksFrom (bytesOf line)) o n o′
+      → Reading (frameOf line) o (Frame′.Insert day (record { 0 = a }) b n) o′
   unfolding carried marksCarried
-  read-insert a b n o′ e f ea eb m =
-      rw (good-frame e, f, ea, eb) (record { frame = rw (m .count); marks = m .words })
+  read-insert day a b n o′ e f ed ea eb m =
+      rw (good-frame e, f, ed, ea, eb) (record { frame = rw (m .count); marks = m .words })
 
--- "more than 64 digits" is bad, so an insert names 14 marks at most
-pub marks-few : (line : List ℕ) → length (marksCarried (frameOf line)) ≤ 14
+-- "more than 64 digits" is bad, so an insert names 13 marks at most
+pub marks-few : (line : List ℕ) → length (marksCarried (frameOf line)) ≤ 13
 unfolding frameOf marksCarried
 marks-few line = go (decLt 64 (length line)) (badLine line) refl
   where
-    go : Dec (64 < length line) → (t : Bool) → badLine line ≡ t → length (marksCarried (cond t Bad (frameIn (bytesOf line)))) ≤ 14
+    go : Dec (64 < length line) → (t : Bool) → badLine line ≡ t → length (marksCarried (cond t Bad (frameIn (bytesOf line)))) ≤ 13
     go (yes h) true e = omega arith
     go (yes h) false e = absurd (clash (sym (bad-long line h)) e)
     go (no f) true e = omega arith

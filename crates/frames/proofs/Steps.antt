@@ -5,23 +5,22 @@ use Prim.Native.Nat.{ℕ, _<_}
 use native.Mathlib.Omega.{arith}
 use borrow.Author.Tests.{ne-eqb}
 use lib.ListN.{length}
-use Rattle.map.specs.Cells.{Map}
-use Rattle.frames.specs.Frames.{Bad, frameOf, replyTo, mapAfter, written, outputFrom}
+use Rattle.frames.specs.Frames.{Journal, Bad, frameOf, replyTo, journalAfter, written, outputFrom}
 
-module _ (m : Map) (line : List ℕ) where
-  pub output-more : (b : ℕ) (rest : List ℕ) → (b ≡ 10 → ⊥) → outputFrom m line (b ∷ rest) ≡ outputFrom m (line ++ (b ∷ [])) rest
+module _ (g : Journal) (line : List ℕ) where
+  pub output-more : (b : ℕ) (rest : List ℕ) → (b ≡ 10 → ⊥) → outputFrom g line (b ∷ rest) ≡ outputFrom g (line ++ (b ∷ [])) rest
   unfolding outputFrom
   output-more b rest ne = rw (ne-eqb b 10 ne, outputFrom)
 
-  pub output-line : (rest : List ℕ) → outputFrom m line (10 ∷ rest) ≡ written (replyTo m (frameOf line)) ++ outputFrom (mapAfter m (frameOf line)) [] rest
+  pub output-line : (rest : List ℕ) → outputFrom g line (10 ∷ rest) ≡ written (replyTo g (frameOf line)) ++ outputFrom (journalAfter g (frameOf line)) [] rest
   unfolding outputFrom
   output-line rest = refl
 
-pub output-end : (m : Map) → outputFrom m [] [] ≡ []
+pub output-end : (g : Journal) → outputFrom g [] [] ≡ []
 unfolding outputFrom
-output-end m = refl
+output-end g = refl
 
-pub output-cut : (m : Map) (line : List ℕ) → 0 < length line → outputFrom m line [] ≡ written (replyTo m Bad)
+pub output-cut : (g : Journal) (line : List ℕ) → 0 < length line → outputFrom g line [] ≡ written (replyTo g Bad)
 unfolding outputFrom
-output-cut m [] h = absurd (omega arith)
-output-cut m (x ∷ xs) h = refl
+output-cut g [] h = absurd (omega arith)
+output-cut g (x ∷ xs) h = refl

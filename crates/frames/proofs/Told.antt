@@ -19,8 +19,8 @@ use Rattle.frames.proofs.Lines.{bad-long}
 -- the frame that the code's frame and the marks tell
 unfoldable pub told : Code.Frame → List ℕ → Frame
 told (Frame′.Format marks cells) l = Format marks cells
-told (Frame′.Insert c t n) l = Change (Insert (c .0) (bodyOf t l))
-told (Frame′.Remove c) l = Change (Remove (c .0))
+told (Frame′.Insert day c t n) l = Change day (Insert (c .0) (bodyOf t l))
+told (Frame′.Remove day c) l = Change day (Remove (c .0))
 told (Frame′.Star d v) l = Star d (v .0)
 told (Frame′.Anchors d v) l = Anchors d (v .0)
 told (Frame′.Sibling c f) l = Sibling (c .0) f
@@ -30,8 +30,8 @@ told Frame′.Bad l = Bad
 pub told-carried : (f : Frame) → told (carried f) (marksCarried f) ≡ f
 unfolding told carried marksCarried
 told-carried (Format marks cells) = refl
-told-carried (Change (Insert c x)) = refl
-told-carried (Change (Remove c)) = refl
+told-carried (Change day (Insert c x)) = refl
+told-carried (Change day (Remove c)) = refl
 told-carried (Star d v) = refl
 told-carried (Anchors d v) = refl
 told-carried (Sibling c f) = refl

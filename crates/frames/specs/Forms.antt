@@ -14,8 +14,8 @@ use Rattle.frames.specs.Frames.{Frame, Format, Change, Star, Anchors, Si
 -- the frame as the code carries it: the marks of an insert stand in lent words, with their count in the frame
 unfoldable pub carried : Frame → Code.Frame
 carried (Format marks cells) = Frame′.Format marks cells
-carried (Change (Insert c x)) = Frame′.Insert (record { 0 = c }) (x .code) (length (x .marks))
-carried (Change (Remove c)) = Frame′.Remove (record { 0 = c })
+carried (Change day (Insert c x)) = Frame′.Insert day (record { 0 = c }) (x .code) (length (x .marks))
+carried (Change day (Remove c)) = Frame′.Remove day (record { 0 = c })
 carried (Star d v) = Frame′.Star d (record { 0 = v })
 carried (Anchors d v) = Frame′.Anchors d (record { 0 = v })
 carried (Sibling c f) = Frame′.Sibling (record { 0 = c }) f
@@ -24,8 +24,8 @@ carried Bad = Frame′.Bad
 -- the marks that an insert names; none of another frame
 unfoldable pub marksCarried : Frame → List ℕ
 marksCarried (Format marks cells) = []
-marksCarried (Change (Insert c x)) = x .marks
-marksCarried (Change (Remove c)) = []
+marksCarried (Change day (Insert c x)) = x .marks
+marksCarried (Change day (Remove c)) = []
 marksCarried (Star d v) = []
 marksCarried (Anchors d v) = []
 marksCarried (Sibling c f) = []

@@ -12,7 +12,8 @@ use Rattle.map.specs.Siblings.{sibling}
 use Rattle.map.specs.Ways.{wayNumber, way}
 use Rattle.map.specs.Stars.{star, anchors}
 use Rattle.map.specs.Answers.{Answer, _when_, answer, starChecks, halfChecks}
-use Rattle.map.specs.History.{empty, Edit, Insert, Remove, editAnswer, edited}
+use Rattle.map.specs.History.{empty, Edit, Insert, Remove}
+use Rattle.journal_store.specs.Days.{Dated, dated, mapAfter, enterAnswer, entered}
 
 -- "Lower-case hexadecimal": 0 to 9, a to f
 unfoldable pub digits : List ℕ
@@ -45,15 +46,15 @@ numberAt bytes k = 256 * getD bytes k 0 + getD bytes (k + 1) 0
 unfoldable pub twoBytes : ℕ → List ℕ
 twoBytes n = n / 256 % 256 ∷ n % 256 ∷ []
 
--- "marks..": as many as stand after code, cell and type, also none
+-- "marks..": as many as stand after code, day, cell and type, also none
 unfoldable pub marksFrom : List ℕ → List ℕ
-marksFrom bytes = listOf ((length bytes - 4) / 2) (λ i. numberAt bytes (4 + 2 * i))
+marksFrom bytes = listOf ((length bytes - 6) / 2) (λ i. numberAt bytes (6 + 2 * i))
 
 pub data Frame : Type 0 where
   -- of marks and cells
   Format : ℕ → ℕ → Frame
-  -- an insert or a remove
-  Change : Edit → Frame
+  -- of a day, an insert or a remove
+  Change : ℕ → Edit → Frame
   -- of a dimension and a mark
   Star : ℕ → ℕ → Frame
   Anchors : ℕ → ℕ → Frame
@@ -75,10 +76,10 @@ unfoldable pub rows : List ℕ → List Row
 rows bytes =
     -- f0 marks cells: format
     (240 sized eqb (length bytes) 5 means Format (numberAt bytes 1) (numberAt bytes 3))
-    -- a0 cell type marks..: insert
-    ∷ (160 sized leb 4 (length bytes) && eqb (length bytes % 2) 0 means Change (Insert (numberAt bytes 1) (bodyOf (getD bytes 3 0) (marksFrom bytes))))
+    -- a0 cell type marks..: insert; "an edit's code is followed by two bytes of day"
+    ∷ (160 sized leb 6 (length bytes) && eqb (length bytes % 2) 0 means Change (numberAt bytes 1) (Insert (numberAt bytes 3) (bodyOf (getD bytes 5 0) (marksFrom bytes))))
     -- d0 cell: remove
-    ∷ (208 sized eqb (length bytes) 3 means Change (Remove (numberAt bytes 1)))
+    ∷ (208 sized eqb (length bytes) 5 means Change (numberAt bytes 1) (Remove (numberAt bytes 3)))
     -- 50 dimension mark: star
     ∷ (80 sized eqb (length bytes) 4 means Star (getD bytes 1 0) (numberAt bytes 2))
     -- 51 dimension mark: anchors
@@ -115,23 +116,39 @@ cellAndFacet h = twoBytes (h / 8) ++ (h % 8 ∷ [])
 unfoldable pub siblingBytes : ℕ → ℕ → List ℕ
 siblingBytes h n = cellAndFacet h ++ (n ∷ [])
 
--- the refusal, and the bytes after it; "The program keeps at most 384 marks and 384 cells; more is refused with 1."
-unfoldable pub replyTo : Map → Frame → Answer
-replyTo m (Format marks cells) = answer ((1 when ltb 384 marks || ltb 384 cells) ∷ []) []
-replyTo m (Change e) = editAnswer m e
-replyTo m (Star d v) = answer (starChecks m d v) (counted twoBytes (star m d v))
-replyTo m (Anchors d v) = answer (starChecks m d v) (counted cellAndFacet (anchors m d v))
-replyTo m (Sibling c f) = answer (halfChecks m c f) (siblingBytes (sibling m (halfOf c f)) (wayNumber (way m (halfOf c f))))
-replyTo m Bad = answer ((15 when true) ∷ []) []
+-- what the program keeps: its journal has places for so many edits; the map when it began, and the dated edits that were entered since
+pub record Journal : Type 0 where
+  pub places : ℕ
+  pub began : Map
+  pub past : List Dated
 
--- the map afterwards: an accepted format or edit makes another, all else leaves it
-unfoldable pub mapAfter : Map → Frame → Map
-mapAfter m (Format marks cells) = cond (eqb (replyTo m (Format marks cells) .refusal) 0) (empty (capacities marks cells)) m
-mapAfter m (Change e) = edited m e
-mapAfter m (Star d v) = m
-mapAfter m (Anchors d v) = m
-mapAfter m (Sibling c f) = m
-mapAfter m Bad = m
+-- "In the frame program its start and each accepted f0 begin one": a journal of a map with no cells
+unfoldable pub begun : ℕ → ℕ → ℕ → Journal
+begun places marks cells = record { places = places; began = empty (capacities marks cells); past = [] }
+
+-- the map that the edits leave
+unfoldable pub today : Journal → Map
+today g = mapAfter (g .began) (g .past)
+
+-- the refusal, and the bytes after it; "The program keeps at most 384 marks and 384 cells; more is refused with 1." No edit is folded.
+unfoldable pub replyTo : Journal → Frame → Answer
+replyTo g (Format marks cells) = answer ((1 when ltb 384 marks || ltb 384 cells) ∷ []) []
+replyTo g (Change day e) = enterAnswer (g .began) (g .past) 0 (g .places) (dated day e)
+replyTo g (Star d v) = answer (starChecks (today g) d v) (counted twoBytes (star (today g) d v))
+replyTo g (Anchors d v) = answer (starChecks (today g) d v) (counted cellAndFacet (anchors (today g) d v))
+replyTo g (Sibling c f) =
+    answer (halfChecks (today g) c f) (siblingBytes (sibling (today g) (halfOf c f)) (wayNumber (way (today g) (halfOf c f))))
+replyTo g Bad = answer ((15 when true) ∷ []) []
+
+-- the journal afterwards: an accepted format begins another, an accepted edit is entered, all else leaves it
+unfoldable pub journalAfter : Journal → Frame → Journal
+journalAfter g (Format marks cells) = cond (eqb (replyTo g (Format marks cells) .refusal) 0) (begun (g .places) marks cells) g
+journalAfter g (Change day e) =
+    record { places = g .places; began = g .began; past = entered (g .began) (g .past) 0 (g .places) (dated day e) }
+journalAfter g (Star d v) = g
+journalAfter g (Anchors d v) = g
+journalAfter g (Sibling c f) = g
+journalAfter g Bad = g
 
 -- each byte as two digits
 unfoldable pub hex : List ℕ → List ℕ
@@ -142,16 +159,16 @@ hex (b ∷ bs) = getD digits (b / 16) 0 ∷ getD digits (b % 16) 0 ∷ hex bs
 unfoldable pub written : Answer → List ℕ
 written a = hex (a .refusal ∷ a .values) ++ (10 ∷ [])
 
--- the output for the rest of an input, from a map and the line read so far; "a last line without its end is 15"
-unfoldable pub outputFrom : Map → List ℕ → List ℕ → List ℕ
-outputFrom m [] [] = []
-outputFrom m (x ∷ xs) [] = written (replyTo m Bad)
-outputFrom m line (b ∷ rest) =
+-- the output for the rest of an input, from a journal and the line read so far; "a last line without its end is 15"
+unfoldable pub outputFrom : Journal → List ℕ → List ℕ → List ℕ
+outputFrom g [] [] = []
+outputFrom g (x ∷ xs) [] = written (replyTo g Bad)
+outputFrom g line (b ∷ rest) =
     elim (eqb b 10) [
-      | true ↦ written (replyTo m (frameOf line)) ++ outputFrom (mapAfter m (frameOf line)) [] rest
-      | false ↦ outputFrom m (line ++ (b ∷ [])) rest
+      | true ↦ written (replyTo g (frameOf line)) ++ outputFrom (journalAfter g (frameOf line)) [] rest
+      | false ↦ outputFrom g (line ++ (b ∷ [])) rest
     ]
 
--- "It starts with capacities 0 and 0." "Empty input writes nothing."
+-- "It starts with capacities 0 and 0." "The program's journal holds 1,000 edits." "Empty input writes nothing."
 unfoldable pub output : List ℕ → List ℕ
-output input = outputFrom (empty (capacities 0 0)) [] input
+output input = outputFrom (begun 1000 0 0) [] input

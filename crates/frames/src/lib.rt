@@ -3,7 +3,7 @@
 // What is here: `digit` and `read` for the line, `write_verdict`, `write_cells`, `write_halves` and `write_half` for the answers, with no
 // mesh memory in them. All are total. What is proved: each frame and each byte is that of specs/Frames.antt, the outline's table; what is
 // lent keeps its length and all else in it (specs/Forms.antt). What a caller should know: `read` takes the line without its end; an insert
-// names 14 marks at most, which stand in the first places of the lent words; a writer answers the place after its bytes, and 775 bytes
+// names 13 marks at most, which stand in the first places of the lent words; a writer answers the place after its bytes, and 775 bytes
 // hold any answer (proofs/Sizes.antt).
 ghost use mathlib.Core.Path.{_≡_};
 ghost use mathlib.Core.List.{[], _∷_};
@@ -22,11 +22,11 @@ use numbers::Half;
 use numbers::Mark;
 use words::put;
 
-// A frame. An insert's marks stand in lent words, and their count is here.
+// A frame. An insert and a remove have their day first. An insert's marks stand in lent words, and their count is here.
 pub enum Frame {
     Format(u32, u32),
-    Insert(Cell, u32, usize),
-    Remove(Cell),
+    Insert(u32, Cell, u32, usize),
+    Remove(u32, Cell),
     Star(u32, Mark),
     Anchors(u32, Mark),
     Sibling(Cell, u32),
@@ -97,13 +97,13 @@ fn number_at(line: &[u8], k: usize) -> u32
 fn read_marks(line: &[u8], marks: &mut [u32]) -> usize
     ensures { λ r. ⌜ Marked (marksFrom (bytesOf (now (line .entry)))) (now (marks .entry)) r (now (marks .exit)) ⌝ }
 {
-    if line.len() / 2 < 4 {
+    if line.len() / 2 < 6 {
         return 0;
     }
-    let n = (line.len() / 2 - 4) / 2;
+    let n = (line.len() / 2 - 6) / 2;
     let mut i = 0;
     while i < n {
-        put(marks, i, number_at(line, 4 + 2 * i));
+        put(marks, i, number_at(line, 6 + 2 * i));
         i += 1;
     }
     n
@@ -124,8 +124,8 @@ fn fixed(line: &[u8]) -> Frame
             }
         }
         0xd0 => {
-            if n == 3 {
-                Frame::Remove(Cell(number_at(line, 1)))
+            if n == 5 {
+                Frame::Remove(number_at(line, 1), Cell(number_at(line, 3)))
             } else {
                 Frame::Bad
             }
@@ -166,14 +166,14 @@ pub fn read(line: &[u8], marks: &mut [u32]) -> Frame
         return fixed(line);
     }
     let n = line.len() / 2;
-    if n < 4 {
+    if n < 6 {
         return Frame::Bad;
     }
     if n % 2 == 1 {
         return Frame::Bad;
     }
     let count = read_marks(line, marks);
-    Frame::Insert(Cell(number_at(line, 1)), byte_at(line, 3), count)
+    Frame::Insert(number_at(line, 1), Cell(number_at(line, 3)), byte_at(line, 5), count)
 }
 
 // A byte of the output at a place; the place after it. Past the end nothing is written.

@@ -25,7 +25,8 @@ returns-4 c =
 
 returns-5 : tie.Need-returns-5
 returns-5 c =
-    let at-number-at = c .before in
+    let at-number-at2 = c .before in
+    let at-number-at = at-number-at2 .before in
     let at-read-marks = at-number-at .before .before .before in
     let at-if4 = at-read-marks .before .before in
     let at-if3 = at-if4 .before in
@@ -33,7 +34,7 @@ returns-5 c =
     let at-byte-at = at-if2 .before in
     let at-if1 = at-byte-at .before in
     let at-bad-line = at-if1 .before in
-    read-insert _ _ _ _ _ _ (sym (at-bad-line .bad-line .ensures) ∙ at-if1 .if1 .left) (insert-whole _ _ (at-byte-at .byte-at .ensures) (at-if2 .if2 .left) (at-if3 .if3 .left) (at-if4 .if4 .left)) (at-number-at .number-at .ensures) (c .byte-at2 .ensures) (at-read-marks .read-marks .ensures)
+    read-insert _ _ _ _ _ _ _ (sym (at-bad-line .bad-line .ensures) ∙ at-if1 .if1 .left) (insert-whole _ _ (at-byte-at .byte-at .ensures) (at-if2 .if2 .left) (at-if3 .if3 .left) (at-if4 .if4 .left)) (at-number-at .number-at .ensures) (at-number-at2 .number-at2 .ensures) (c .byte-at2 .ensures) (at-read-marks .read-marks .ensures)
 
 pub read-spec : {M : Type 1} → statement M
 read-spec =
@@ -46,6 +47,7 @@ read-spec =
     returns-2
     returns-3
     returns-4
+    (λ c κs. search needs)
     (λ c κs. search needs)
     (λ c κs. search needs)
     (λ c κs. search needs)

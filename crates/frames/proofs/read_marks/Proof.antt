@@ -11,7 +11,7 @@ use Rattle.frames.proofs.read_marks.Statement.{statement}
 use Rattle.frames.proofs.read_marks.Tie as tie
 
 abbrev Inv-loop : tie.InvT-loop
-Inv-loop line marks₀ n i₀ marks i = (i ≤ n) × (n ≡ (length line / 2 - 4) / 2) × (marks ≡ sets marks₀ 0 (listOf i (markAt line)))
+Inv-loop line marks₀ n i₀ marks i = (i ≤ n) × (n ≡ (length line / 2 - 6) / 2) × (marks ≡ sets marks₀ 0 (listOf i (markAt line)))
 
 abbrev μ-loop : tie.MeasureT-loop
 μ-loop line marks₀ n i₀ marks i = n - i
