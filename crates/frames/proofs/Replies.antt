@@ -9,8 +9,8 @@ use lib.Dec.{ltb}
 use lib.ListN.{getD, length}
 use Rattle.numbers.specs.Half.{halfOf}
 use Rattle.map.specs.declared.Refusal.{Refusal}
-use Rattle.map.specs.declared.Refusal.the-variants.{CapacityAbove, BadFrame}
-use Rattle.map.specs.declared.Verdict.the-variants.{Accepted, Refused}
+use Rattle.map.specs.declared.Refusal.the-variants.{BadFrame}
+use Rattle.map.specs.declared.Verdict.the-variants.{Refused}
 use Rattle.map.specs.Siblings.{sibling}
 use Rattle.map.specs.Ways.{wayNumber, way}
 use Rattle.map.specs.Answers.{Check, Answer, _when_, answer, listAnswer, halfChecks, siblingAnswer}
@@ -65,21 +65,13 @@ module _ (checks : List Check) (l values : List ℕ) (places : ℕ) (h : length 
 
 module _ (g : Journal) (marks cells : ℕ) where
   -- "The program keeps at most 384 marks and 384 cells; more is refused with 1."
-  pub reply-above : ltb 384 marks || ltb 384 cells ≡ true → replyTo g (Format marks cells) ≡ verdictSays (Refused CapacityAbove)
-  unfolding replyTo answer _when_ verdictSays refused
-  reply-above e = rw e
-
   pub journal-above : ltb 384 marks || ltb 384 cells ≡ true → journalAfter g (Format marks cells) ≡ g
   unfolding journalAfter replyTo answer _when_
   journal-above e = rw e
 
-  pub reply-format : marks ≤ 384 → cells ≤ 384 → replyTo g (Format marks cells) ≡ verdictSays Accepted
-  unfolding replyTo answer _when_ verdictSays given
-  reply-format a b = rw (le-ltb 384 marks a, le-ltb 384 cells b)
-
-  pub journal-format : marks ≤ 384 → cells ≤ 384 → journalAfter g (Format marks cells) ≡ begun (g .places) marks cells
+  pub journal-format : ltb 384 marks || ltb 384 cells ≡ false → journalAfter g (Format marks cells) ≡ begun (g .places) marks cells
   unfolding journalAfter replyTo answer _when_
-  journal-format a b = rw (le-ltb 384 marks a, le-ltb 384 cells b)
+  journal-format e = rw e
 
 module _ (g : Journal) where
   bytes : ℕ → List ℕ

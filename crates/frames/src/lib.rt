@@ -173,7 +173,12 @@ pub fn read(line: &[u8], marks: &mut [u32]) -> Frame
         return Frame::Bad;
     }
     let count = read_marks(line, marks);
-    Frame::Insert(number_at(line, 1), Cell(number_at(line, 3)), byte_at(line, 5), count)
+    Frame::Insert(
+        number_at(line, 1),
+        Cell(number_at(line, 3)),
+        byte_at(line, 5),
+        count,
+    )
 }
 
 // A byte of the output at a place; the place after it. Past the end nothing is written.
