@@ -11,42 +11,42 @@ use borrow.Author.Tests.{leb-true, leb-false, le-ltb, lt-ltb, ne-eqb}
 use lib.Dec.{leb}
 use lib.ListN.{length, getD, take, drop, length-append}
 use lib.Seq.{take-suc, drop-cons, drop-length}
-use Rattle.numbers.specs.Room.{room}
 use Rattle.words.specs.Words.{Only, partOf}
 use Rattle.words.proofs.Frame.{only-none, only-then, only-wider}
-use Rattle.map.specs.Cells.{Map}
-use Rattle.frames.specs.Frames.{frameOf, replyTo, mapAfter, written, outputFrom}
+use Rattle.frames.specs.Frames.{frameOf, Journal, replyTo, journalAfter, written, outputFrom}
 use Rattle.frames.specs.Forms.{Appended}
 use Rattle.frames.proofs.Append.{append-none, append-more, append-fits, append-length}
 use Rattle.frames.proofs.Steps.{output-more, output-line}
+use Rattle.reply.specs.Memory.{Memory, Inside}
 use Rattle.reply.specs.Replied.{Replied}
+use Rattle.reply.proofs.Begins.{within-none, inside-then}
 use Rattle.input.specs.declared.Places.{Places}
 use Rattle.input.specs.Standing.{Standing, Reached}
 use Rattle.input.specs.Fed.{KeptByte, Taken, lent, OneByOne, none, more, takenFrom, Feeding}
 use Rattle.input.proofs.Lines.{line-none, line-frame, kept-place}
 
 -- no byte
-pub reached-none : {m : Map} {l w line : List ℕ} {n : ℕ} → Standing w line n m l → Reached m l [] [] w line n
-reached-none {m} {l} s = record { map = m; sofar = l; stands = s; output = λ rest. refl }
+pub reached-none : {m : Journal} {l : List ℕ} {w : Memory} {line : List ℕ} {n : ℕ} → Standing w line n m l → Reached m l [] [] w line n
+reached-none {m} {l} s = record { journal = m; sofar = l; stands = s; output = λ rest. refl }
 
 -- some bytes and then others
-pub reached-then : {m : Map} {l a b t u w line w′ line′ : List ℕ} {n n′ : ℕ} (f : Reached m l a t w line n)
-    → Reached (f .map) (f .sofar) b u w′ line′ n′ → Reached m l (a ++ b) (t ++ u) w′ line′ n′
+pub reached-then : {m : Journal} {l a b t u : List ℕ} {w : Memory} {line : List ℕ} {w′ : Memory} {line′ : List ℕ} {n n′ : ℕ} (f : Reached m l a t w line n)
+    → Reached (f .journal) (f .sofar) b u w′ line′ n′ → Reached m l (a ++ b) (t ++ u) w′ line′ n′
 reached-then {m} {l} {a} {b} {t} {u} f g = record {
-  map = g .map;
+  journal = g .journal;
   sofar = g .sofar;
   stands = g .stands;
   output = λ rest.
       ap (outputFrom m l) (append-assoc a b rest)
-      ∙ (f .output (b ++ rest) ∙ (ap (λ (x : List ℕ). t ++ x) (g .output rest) ∙ sym (append-assoc t u (outputFrom (g .map) (g .sofar) rest))));
+      ∙ (f .output (b ++ rest) ∙ (ap (λ (x : List ℕ). t ++ x) (g .output rest) ∙ sym (append-assoc t u (outputFrom (g .journal) (g .sofar) rest))));
 }
 
 -- the same bytes, named otherwise
-reached-as : {m : Map} {l a b t w line : List ℕ} {n : ℕ} → b ≡ a → Reached m l a t w line n → Reached m l b t w line n
-reached-as e f = record { map = f .map; sofar = f .sofar; stands = f .stands; output = λ rest. rw e (f .output rest) }
+reached-as : {m : Journal} {l a b t : List ℕ} {w : Memory} {line : List ℕ} {n : ℕ} → b ≡ a → Reached m l a t w line n → Reached m l b t w line n
+reached-as e f = record { journal = f .journal; sofar = f .sofar; stands = f .stands; output = λ rest. rw e (f .output rest) }
 
 -- how many bytes are taken, byte by byte
-module _ (m : Map) (line : List ℕ) (room : ℕ) where
+module _ (m : Journal) (line : List ℕ) (room : ℕ) where
   taken-none : takenFrom room m line [] ≡ 0
   unfolding takenFrom
   taken-none = refl
@@ -57,7 +57,7 @@ module _ (m : Map) (line : List ℕ) (room : ℕ) where
   taken-stops (b ∷ rest) h = rw (lt-ltb room 775 h, takenFrom) refl
 
   taken-ends : (rest : List ℕ) → 775 ≤ room
-      → takenFrom room m line (10 ∷ rest) ≡ suc (takenFrom (room - length (written (replyTo m (frameOf line)))) (mapAfter m (frameOf line)) [] rest)
+      → takenFrom room m line (10 ∷ rest) ≡ suc (takenFrom (room - length (written (replyTo m (frameOf line)))) (journalAfter m (frameOf line)) [] rest)
   unfolding takenFrom
   taken-ends rest h = rw (le-ltb room 775 h, takenFrom)
 
@@ -66,20 +66,20 @@ module _ (m : Map) (line : List ℕ) (room : ℕ) where
   taken-goes b rest ne h = rw (le-ltb room 775 h, takenFrom) (rw (ne-eqb b 10 ne))
 
 -- what comes of one byte
-record Byte (w line : List ℕ) (n b : ℕ) (o : List ℕ) (at : ℕ) (r : Places) (w′ line′ o′ : List ℕ) : Type 0 where
+record Byte (w : Memory) (line : List ℕ) (n b : ℕ) (o : List ℕ) (at : ℕ) (r : Places) (w′ : Memory) (line′ o′ : List ℕ) : Type 0 where
   text : List ℕ
   few : length text ≤ 775
   appended : Appended text o at (r .out) o′
-  inside : Only (λ i. i < room 384 384) w w′
+  inside : Inside w w′
   inLine : Only (λ i. (i < 65) × (i ≡ n)) line line′
   along : r .line ≤ n + 1
-  stands : (m : Map) (l : List ℕ) → Standing w line n m l
+  stands : (m : Journal) (l : List ℕ) → Standing w line n m l
       → (f : Reached m l (b ∷ []) text w′ line′ (r .line))
-      × ((room : ℕ) (rest : List ℕ) → 775 ≤ room → takenFrom room m l (b ∷ rest) ≡ suc (takenFrom (room - length text) (f .map) (f .sofar) rest))
+      × ((room : ℕ) (rest : List ℕ) → 775 ≤ room → takenFrom room m l (b ∷ rest) ≡ suc (takenFrom (room - length text) (f .journal) (f .sofar) rest))
 
-module _ (w line : List ℕ) (n b : ℕ) (o : List ℕ) (at : ℕ) where
+module _ (w : Memory) (line : List ℕ) (n b : ℕ) (o : List ℕ) (at : ℕ) where
   -- a byte that ends the line
-  pub taken-line : (part w′ o′ : List ℕ) (r z : ℕ) → b ≡ 10 → z ≡ 0 → part ≡ partOf line z (n - z) → Replied (frameOf part) w o at r w′ o′
+  pub taken-line : (part : List ℕ) (w′ : Memory) (o′ : List ℕ) (r z : ℕ) → b ≡ 10 → z ≡ 0 → part ≡ partOf line z (n - z) → Replied (frameOf part) w o at r w′ o′
       → Taken w line n b o at (record { line = z; out = r }) w′ line o′
   taken-line part w′ o′ r z e zero is p = record {
     ends = λ _. (rw whole at p, refl, zero);
@@ -96,7 +96,7 @@ module _ (w line : List ℕ) (n b : ℕ) (o : List ℕ) (at : ℕ) where
     goes = λ _. (k, refl, refl, refl);
   }
 
-  module _ (r : Places) (w′ line′ o′ : List ℕ) where
+  module _ (r : Places) (w′ : Memory) (line′ o′ : List ℕ) where
     byte-ends : b ≡ 10 → Replied (frameOf (partOf line 0 n)) w o at (r .out) w′ o′ → line′ ≡ line → r .line ≡ 0 → Byte w line n b o at r w′ line′ o′
     byte-ends e p same zero = record {
       text = written (p .answered .says);
@@ -107,21 +107,21 @@ module _ (w line : List ℕ) (n b : ℕ) (o : List ℕ) (at : ℕ) where
       along = omega (arith, zero);
       stands = λ m l s.
           let frame : frameOf (partOf line 0 n) ≡ frameOf l = line-frame line n l (s .lined) in
-          let q = p .answered .answers m (s .mesh) in
+          let q = p .answered .answers m (s .memory) in
           let says : replyTo m (frameOf l) ≡ p .answered .says = sym (rw frame at (q .0)) in (
             record {
-              map = mapAfter m (frameOf l);
+              journal = journalAfter m (frameOf l);
               sofar = [];
-              stands = record { mesh = rw frame at (q .1); lined = rw same (line-none line (r .line) (s .lined .fits) zero) };
+              stands = record { memory = rw frame at (q .1); lined = rw same (line-none line (r .line) (s .lined .fits) zero) };
               output = λ rest.
                   ap (λ (x : ℕ). outputFrom m l (x ∷ rest)) e
                   ∙ (output-line m l rest
-                  ∙ ap (λ a. written a ++ outputFrom (mapAfter m (frameOf l)) [] rest) says);
+                  ∙ ap (λ a. written a ++ outputFrom (journalAfter m (frameOf l)) [] rest) says);
             },
             λ room rest h.
                 ap (λ (x : ℕ). takenFrom room m l (x ∷ rest)) e
                 ∙ (taken-ends m l room rest h
-                ∙ ap (λ a. suc (takenFrom (room - length (written a)) (mapAfter m (frameOf l)) [] rest)) says),
+                ∙ ap (λ a. suc (takenFrom (room - length (written a)) (journalAfter m (frameOf l)) [] rest)) says),
           );
     }
 
@@ -130,14 +130,14 @@ module _ (w line : List ℕ) (n b : ℕ) (o : List ℕ) (at : ℕ) where
       text = [];
       few = omega arith;
       appended = rw (out, place) (append-none o at);
-      inside = rw mesh only-none;
+      inside = rw mesh within-none;
       inLine = kept-place line n b k .1;
       along = kept-place line n b k .0;
       stands = λ m l s. (
         record {
-          map = m;
+          journal = m;
           sofar = l ++ (b ∷ []);
-          stands = record { mesh = rw mesh (s .mesh); lined = k .more l (s .lined) };
+          stands = record { memory = rw mesh (s .memory); lined = k .more l (s .lined) };
           output = λ rest. output-more m l b rest ne;
         },
         λ room rest h. rw (nothing room) (taken-goes m l room b rest ne h),
@@ -155,7 +155,7 @@ module _ (w line : List ℕ) (n b : ℕ) (o : List ℕ) (at : ℕ) where
         go (no ne) = let q = t .goes ne in byte-goes ne (q .0) (q .1) (q .2) (q .3)
 
 -- the first i bytes of a piece taken
-pub record Going (w₀ line₀ : List ℕ) (n₀ : ℕ) (piece o₀ w line o : List ℕ) (n i at : ℕ) : Type 0 where
+pub record Going (w₀ : Memory) (line₀ : List ℕ) (n₀ : ℕ) (piece o₀ : List ℕ) (w : Memory) (line o : List ℕ) (n i at : ℕ) : Type 0 where
   pub bytes : OneByOne (lent w₀ line₀ n₀ o₀ 0) (take i piece) (lent w line n o at)
   pub text : List ℕ
   pub fits : length text ≤ length o₀
@@ -163,13 +163,13 @@ pub record Going (w₀ line₀ : List ℕ) (n₀ : ℕ) (piece o₀ w line o : L
   pub taken : i ≤ length piece
   pub begins : i ≡ 0 → length text ≡ 0
   pub along : n ≤ n₀ + i
-  pub inside : Only (λ i. i < room 384 384) w₀ w
+  pub inside : Inside w₀ w
   pub inLine : Only (λ k. (k < 65) × (k < n₀ + i)) line₀ line
-  pub stands : (m : Map) (l : List ℕ) → Standing w₀ line₀ n₀ m l
+  pub stands : (m : Journal) (l : List ℕ) → Standing w₀ line₀ n₀ m l
       → (f : Reached m l (take i piece) text w line n)
-      × (takenFrom (length o₀) m l piece ≡ i + takenFrom (length o₀ - length text) (f .map) (f .sofar) (drop i piece))
+      × (takenFrom (length o₀) m l piece ≡ i + takenFrom (length o₀ - length text) (f .journal) (f .sofar) (drop i piece))
 
-module _ (w₀ line₀ : List ℕ) (n₀ : ℕ) (piece o₀ : List ℕ) where
+module _ (w₀ : Memory) (line₀ : List ℕ) (n₀ : ℕ) (piece o₀ : List ℕ) where
   pub going-start : (i at : ℕ) → i ≡ 0 → at ≡ 0 → Going w₀ line₀ n₀ piece o₀ w₀ line₀ o₀ n₀ i at
   unfolding reached-none
   going-start i at z y = rw (z, y) (record {
@@ -180,7 +180,7 @@ module _ (w₀ line₀ : List ℕ) (n₀ : ℕ) (piece o₀ : List ℕ) where
     taken = omega arith;
     begins = λ _. refl;
     along = omega arith;
-    inside = only-none;
+    inside = within-none;
     inLine = only-none;
     stands = λ m l s. (
       reached-none s,
@@ -188,7 +188,7 @@ module _ (w₀ line₀ : List ℕ) (n₀ : ℕ) (piece o₀ : List ℕ) where
     );
   })
 
-  module _ (w line o : List ℕ) (n i at : ℕ) (g : Going w₀ line₀ n₀ piece o₀ w line o n i at) where
+  module _ (w : Memory) (line o : List ℕ) (n i at : ℕ) (g : Going w₀ line₀ n₀ piece o₀ w line o n i at) where
     pub going-length : length o ≡ length o₀
     going-length = append-length (g .text) (g .appended)
 
@@ -196,7 +196,7 @@ module _ (w₀ line₀ : List ℕ) (n₀ : ℕ) (piece o₀ : List ℕ) where
     going-place : at ≡ length (g .text)
     going-place = append-fits (g .text) (g .appended) (omega (arith, g .fits)) .0 ∙ zero-add (length (g .text))
 
-    pub going-more : (b : ℕ) (r : Places) (w′ line′ o′ : List ℕ) (k : ℕ) → i < length piece → b ≡ getD piece i 0 → leb (at + 775) (length o₀) ≡ true
+    pub going-more : (b : ℕ) (r : Places) (w′ : Memory) (line′ o′ : List ℕ) (k : ℕ) → i < length piece → b ≡ getD piece i 0 → leb (at + 775) (length o₀) ≡ true
         → Taken w line n b o at r w′ line′ o′ → k ≡ i + 1 → Going w₀ line₀ n₀ piece o₀ w′ line′ o′ (r .line) k (r .out)
     unfolding reached-as reached-then
     going-more b r w′ line′ o′ k less e enough taken next = record {
@@ -207,19 +207,19 @@ module _ (w₀ line₀ : List ℕ) (n₀ : ℕ) (piece o₀ : List ℕ) where
       taken = omega arith;
       begins = λ z. absurd (omega arith);
       along = omega (arith, t .along, g .along);
-      inside = only-then (g .inside) (t .inside);
+      inside = inside-then (g .inside) (t .inside);
       inLine =
           only-then (only-wider (λ j p. (p .0, omega (arith, p .1))) (g .inLine))
           (only-wider (λ j p. (p .0, omega (arith, p .1, g .along))) (t .inLine));
       stands = λ m l s.
           let f = g .stands m l s in
-          let h = t .stands (f .0 .map) (f .0 .sofar) (f .0 .stands) in (
+          let h = t .stands (f .0 .journal) (f .0 .sofar) (f .0 .stands) in (
             reached-as bytes (reached-then (f .0) (h .0)),
             f .1
-                ∙ (ap (λ (x : List ℕ). i + takenFrom (length o₀ - length (g .text)) (f .0 .map) (f .0 .sofar) x) (rw (next, add-one i, e) (drop-cons piece i 0 less))
+                ∙ (ap (λ (x : List ℕ). i + takenFrom (length o₀ - length (g .text)) (f .0 .journal) (f .0 .sofar) x) (rw (next, add-one i, e) (drop-cons piece i 0 less))
                 ∙ (ap (λ (x : ℕ). i + x) (h .1 (length o₀ - length (g .text)) (drop k piece) (omega (arith, going-place, room-enough)))
-                ∙ counted (takenFrom (length o₀ - length (g .text) - length (t .text)) (h .0 .map) (h .0 .sofar) (drop k piece))
-                ∙ ap (λ (x : ℕ). k + takenFrom x (h .0 .map) (h .0 .sofar) (drop k piece)) (omega (arith, length-append (g .text) (t .text))))),
+                ∙ counted (takenFrom (length o₀ - length (g .text) - length (t .text)) (h .0 .journal) (h .0 .sofar) (drop k piece))
+                ∙ ap (λ (x : ℕ). k + takenFrom x (h .0 .journal) (h .0 .sofar) (drop k piece)) (omega (arith, length-append (g .text) (t .text))))),
           );
     }
       where
@@ -236,7 +236,7 @@ module _ (w₀ line₀ : List ℕ) (n₀ : ℕ) (piece o₀ : List ℕ) where
         counted x = omega arith
 
     fed-so : (0 < length piece → 775 ≤ length o₀ → 0 < i) → (i < length piece → length o₀ < at + 775)
-        → ((m : Map) (l : List ℕ) → takenFrom (length o₀ - length (g .text)) m l (drop i piece) ≡ 0)
+        → ((m : Journal) (l : List ℕ) → takenFrom (length o₀ - length (g .text)) m l (drop i piece) ≡ 0)
         → Feeding w₀ line₀ n₀ piece o₀ (record { taken = i; length = n; written = at }) w line o
     fed-so goes stops ends = record {
       bytes = g .bytes;
@@ -251,7 +251,7 @@ module _ (w₀ line₀ : List ℕ) (n₀ : ℕ) (piece o₀ : List ℕ) where
       inLine = g .inLine;
       stands = λ m l s.
           let f = g .stands m l s in
-          (omega (arith, f .1, ends (f .0 .map) (f .0 .sofar)), f .0);
+          (omega (arith, f .1, ends (f .0 .journal) (f .0 .sofar)), f .0);
     }
 
     -- the piece is used up

@@ -1,8 +1,9 @@
 // The input of the frame program, in pieces as they come.
 //
-// What is here: `start` formats the lent words, `feed` takes bytes of a piece and writes the answer of each line that ends in it, `finish`
-// answers a last line without its end; `part` cuts what is handed in and out. None has a `requires`. Between two calls the state is the mesh
-// words (15,376 of them), 65 bytes of the line so far, and their count. What is proved: on any memory a piece is taken byte by byte, and how
+// What is here: `start` formats the lent mesh and begins its journal, `feed` takes bytes of a piece and writes the answer of each line that ends
+// in it, `finish` answers a last line without its end; `part` cuts what is handed in and out. None has a `requires`. Between two calls the
+// state is the words of the mesh (15,376), of its journal (16,016 for 1,000 edits) and of the starting map (15,376), 65 bytes of the line so far, and
+// their count. What is proved: on any memory a piece is taken byte by byte, and how
 // far; however the input is cut, what is written is the output of the whole (specs/Fed.antt, proofs/Runs.antt); a line of any length takes 65
 // bytes of memory. What a caller should know: `feed` takes bytes while the output has room for any answer, 775 bytes; what it did not take
 // is handed in again.
@@ -10,15 +11,13 @@ ghost use mathlib.Core.Path.{_≡_};
 ghost use Prim.Native.Nat.{_+_, _-_};
 ghost use lib.Dec.{leb};
 ghost use Rattle.words.specs.Words.{partOf};
+ghost use Rattle.reply.specs.Memory.{memory};
 ghost use Rattle.input.specs.Fed.{Started, KeptByte, Taken, Feeding, Finished};
-use format::format;
 use frames::write_verdict;
 use map::Refusal;
 use map::Verdict;
+use reply::format_and_begin;
 use reply::reply;
-
-// The room of 384 marks and 384 cells.
-const ROOM: usize = 15376;
 
 const LINE_END: u8 = 0x0a;
 
@@ -35,14 +34,11 @@ pub struct Fed {
     pub written: usize,
 }
 
-// A mesh of capacities 0 and 0, in words with room for the largest.
-pub fn start(mesh: &mut [u32]) -> Verdict
-    ensures { λ r. ⌜ Started (now (mesh .entry)) r (now (mesh .exit)) ⌝ }
+// A mesh of capacities 0 and 0 and its journal, in words with room for the largest.
+pub fn start(mesh: &mut [u32], journal: &mut [u32], starting: &mut [u32]) -> Verdict
+    ensures { λ r. ⌜ Started (memory (now (mesh .entry)) (now (journal .entry)) (now (starting .entry))) r (memory (now (mesh .exit)) (now (journal .exit)) (now (starting .exit))) ⌝ }
 {
-    if mesh.len() < ROOM {
-        return Verdict::Refused(Refusal::MemoryShort);
-    }
-    format(mesh, 0, 0)
+    format_and_begin(mesh, journal, starting, 0, 0)
 }
 
 // The bytes from one place up to another; none where they do not all lie in the list.
@@ -81,16 +77,18 @@ struct Places {
 // One byte of the input: it ends the line, which is answered, or is kept.
 fn take_byte(
     mesh: &mut [u32],
+    journal: &mut [u32],
+    starting: &mut [u32],
     line: &mut [u8],
     n: usize,
     b: u8,
     out: &mut [u8],
     at: usize,
 ) -> Places
-    ensures { λ r. ⌜ Taken (now (mesh .entry)) (now (line .entry)) n b (now (out .entry)) at r (now (mesh .exit)) (now (line .exit)) (now (out .exit)) ⌝ }
+    ensures { λ r. ⌜ Taken (memory (now (mesh .entry)) (now (journal .entry)) (now (starting .entry))) (now (line .entry)) n b (now (out .entry)) at r (memory (now (mesh .exit)) (now (journal .exit)) (now (starting .exit))) (now (line .exit)) (now (out .exit)) ⌝ }
 {
     if b == LINE_END {
-        let next = reply(mesh, part(line, 0, n), out, at);
+        let next = reply(mesh, journal, starting, part(line, 0, n), out, at);
         return Places { line: 0, out: next };
     }
     let kept = keep(line, n, b);
@@ -111,15 +109,23 @@ fn has_room(room: usize, at: usize) -> bool
 }
 
 // Bytes of a piece taken, and the answer of each line that ends in them written to the first places of out.
-pub fn feed(mesh: &mut [u32], line: &mut [u8], length: usize, piece: &[u8], out: &mut [u8]) -> Fed
-    ensures { λ r. ⌜ Feeding (now (mesh .entry)) (now (line .entry)) length (now (piece .entry)) (now (out .entry)) r (now (mesh .exit)) (now (line .exit)) (now (out .exit)) ⌝ }
+pub fn feed(
+    mesh: &mut [u32],
+    journal: &mut [u32],
+    starting: &mut [u32],
+    line: &mut [u8],
+    length: usize,
+    piece: &[u8],
+    out: &mut [u8],
+) -> Fed
+    ensures { λ r. ⌜ Feeding (memory (now (mesh .entry)) (now (journal .entry)) (now (starting .entry))) (now (line .entry)) length (now (piece .entry)) (now (out .entry)) r (memory (now (mesh .exit)) (now (journal .exit)) (now (starting .exit))) (now (line .exit)) (now (out .exit)) ⌝ }
 {
     let room = out.len();
     let mut n = length;
     let mut i = 0;
     let mut at = 0;
     while i < piece.len() && has_room(room, at) {
-        let next = take_byte(mesh, line, n, piece[i], out, at);
+        let next = take_byte(mesh, journal, starting, line, n, piece[i], out, at);
         n = next.line;
         at = next.out;
         i += 1;

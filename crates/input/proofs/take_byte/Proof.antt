@@ -7,7 +7,7 @@ use Rattle.input.proofs.take_byte.Tie as tie
 
 returns : tie.Need-returns
 returns c =
-    let at-reply = c .before .before .before .before in
+    let at-reply = c .before .before .before .before .before .before .before .before in
     let at-part = at-reply .before .before in
     taken-line _ _ _ _ _ _ _ _ _ _ _ (omega arith) (omega arith) (at-part .part .ensures) (at-reply .reply .ensures)
 
@@ -20,6 +20,8 @@ take-byte-spec =
     (tie.spec
     (λ c κs. search needs)
     (λ c κs. search needs)
+    (λ c. search needs)
+    (λ c. search needs)
     (λ c. search needs)
     (λ c. search needs)
     (λ c. search needs)
