@@ -13,17 +13,18 @@ use lib.ListN.{length, take, drop}
 use lib.Seq.{take-take, drop-drop, take-add}
 use Rattle.io.specs.Counts.{clamped}
 use Rattle.numbers.specs.Room.{room}
-use Rattle.numbers.specs.Sizes.{capacities}
 use Rattle.words.specs.Words.{partOf}
 use Rattle.words.proofs.Fits.{part-fits, part-none}
 use Rattle.map.specs.declared.Verdict.{Verdict}
 use Rattle.map.specs.declared.Verdict.the-variants.{Accepted}
-use Rattle.map.specs.Cells.{Map}
 use Rattle.map.specs.Answers.{answer, _when_}
-use Rattle.map.specs.History.{empty}
 use Rattle.map.specs.Says.{given, verdictSays}
 use Rattle.map.proofs.Says.{verdict-one}
-use Rattle.frames.specs.Frames.{outputFrom, output}
+use Rattle.journal_store.specs.Entries.{placesOf}
+use Rattle.frames.specs.Frames as Frames
+use Rattle.frames.specs.Frames.{Journal, outputFrom, output}
+use Rattle.reply.specs.Memory.{Memory, memory}
+use Rattle.reply.specs.Replied.{formatAnswer}
 use Rattle.input.specs.Standing.{Standing, Reached}
 use Rattle.input.specs.Fed.{Started, Feeding, Finished}
 use Rattle.input.proofs.Going.{reached-then}
@@ -72,18 +73,18 @@ clamped-most (pos k) most = omega arith
 clamped-most (negsuc k) most = omega arith
 
 -- what has been read is what was taken and what is left, and what was written is the output of what was taken
-record Reads (m : Map) (w line piece : List ℕ) (t : Turn) (read wrote : List ℕ) : Type 0 where
+record Reads (m : Journal) (w : Memory) (line piece : List ℕ) (t : Turn) (read wrote : List ℕ) : Type 0 where
   taken : List ℕ
   all : read ≡ taken ++ rest piece t
   reached : Reached m [] taken wrote w line (t .length)
 
-module _ (m : Map) {w line piece read wrote o w′ line′ piece′ o′ : List ℕ} {t r : Turn} (p : Reads m w line piece t read wrote) (enough : 775 ≤ length o) where
+module _ (m : Journal) {w : Memory} {line piece read wrote o : List ℕ} {w′ : Memory} {line′ piece′ o′ : List ℕ} {t r : Turn} (p : Reads m w line piece t read wrote) (enough : 775 ≤ length o) where
   reads-answered : t .from < t .to → Answered w line t piece o r w′ line′ o′ → piece′ ≡ piece
       → Reads m w′ line′ piece′ r (read ++ readIn t r piece′) (wrote ++ take (r .wrote) o′)
   unfolding rest readIn
   reads-answered h a same =
       let f = a .feeding in
-      let q = f .stands (p .reached .map) (p .reached .sofar) (p .reached .stands) .1 in
+      let q = f .stands (p .reached .journal) (p .reached .sofar) (p .reached .stands) .1 in
       let text : take (r .wrote) o′ ≡ f .text = ap (λ (n : ℕ). take n o′) (a .wrote) ∙ fed-text f in
       record {
         taken = p .taken ++ take (a .fed .taken) (rest piece t);
@@ -121,7 +122,7 @@ zero-or (pos (suc k)) = no (λ e. let z : _≡_ {A = ℕ} (suc k) 0 = ap mag e i
 zero-or (negsuc k) = no (λ e. let z : _≡_ {A = ℕ} 0 1 = cc in omega arith)
 
 -- a turn that goes on has not ended
-on-goes : {n : ℕ} {w₀ line₀ w line piece read wrote : List ℕ} {t : Turn} → Turns n w₀ line₀ w line piece t read wrote → t .on ≡ true → t .ended ≡ false
+on-goes : {n : ℕ} {w₀ : Memory} {line₀ : List ℕ} {w : Memory} {line piece read wrote : List ℕ} {t : Turn} → Turns n w₀ line₀ w line piece t read wrote → t .on ≡ true → t .ended ≡ false
 unfolding begin
 on-goes begun on = refl
 on-goes (turned {t = t} {r = r} turns before h a) on = go (decLt (t .from) (t .to))
@@ -132,12 +133,12 @@ on-goes (turned {t = t} {r = r} turns before h a) on = go (decLt (t .from) (t .t
         let q = a .reads (omega arith) in
         elim (zero-or (q .0)) [ yes e ↦ absurd (clash on (q .1 .end e .stops)) | no ne ↦ q .1 .more ne .0 ]
 
-module _ (m : Map) where
+module _ (m : Journal) where
   -- while the input has not ended
-  served-so-far : {n : ℕ} {w₀ line₀ w line piece read wrote : List ℕ} {t : Turn} → Standing w₀ line₀ 0 m [] → Turns n w₀ line₀ w line piece t read wrote → t .ended ≡ false
+  served-so-far : {n : ℕ} {w₀ : Memory} {line₀ : List ℕ} {w : Memory} {line piece read wrote : List ℕ} {t : Turn} → Standing w₀ line₀ 0 m [] → Turns n w₀ line₀ w line piece t read wrote → t .ended ≡ false
       → Reads m w line piece t read wrote
   unfolding begin rest
-  served-so-far {piece = piece} s begun goes = record { taken = []; all = sym (none-left piece 0 (0 - 0) refl); reached = record { map = m; sofar = []; stands = s; output = λ _. refl } }
+  served-so-far {piece = piece} s begun goes = record { taken = []; all = sym (none-left piece 0 (0 - 0) refl); reached = record { journal = m; sofar = []; stands = s; output = λ _. refl } }
   served-so-far s (turned {w = w} {line = line} {piece = piece} {read = read} {wrote = wrote} {w′ = w′} {line′ = line′} {piece′ = piece′} {o′ = o′} {t = t} {r = r} turns on h a) goes =
       go (decLt (t .from) (t .to)) (served-so-far s turns (on-goes turns on))
     where
@@ -148,7 +149,7 @@ module _ (m : Map) where
           reads-more m p h (q .0) (omega arith) (q .1) (λ e. clash (q .1 .end e .ends) goes) (q .2) (q .3)
 
   -- at its end
-  pub served-output : {n : ℕ} {w₀ line₀ w line piece read wrote : List ℕ} {t : Turn} → Standing w₀ line₀ 0 m [] → Turns n w₀ line₀ w line piece t read wrote → t .ended ≡ true
+  pub served-output : {n : ℕ} {w₀ : Memory} {line₀ : List ℕ} {w : Memory} {line piece read wrote : List ℕ} {t : Turn} → Standing w₀ line₀ 0 m [] → Turns n w₀ line₀ w line piece t read wrote → t .ended ≡ true
       → wrote ≡ outputFrom m [] read
   unfolding begin rest readIn
   served-output s begun ends = absurd (clash ends refl)
@@ -159,7 +160,7 @@ module _ (m : Map) where
       last none p e =
           let nothing : rest piece t ≡ [] = none-left piece (t .from) (t .to - t .from) (omega arith) in
           let all : read ≡ p .taken ++ [] = p .all ∙ ap (λ (x : List ℕ). p .taken ++ x) nothing in
-          let text : take (r .wrote) o′ ≡ outputFrom (p .reached .map) (p .reached .sofar) [] = end-text (e .finished) (omega arith) ∙ e .finished .ends _ _ (p .reached .map) (p .reached .sofar) (p .reached .stands) in
+          let text : take (r .wrote) o′ ≡ outputFrom (p .reached .journal) (p .reached .sofar) [] = end-text (e .finished) (omega arith) ∙ e .finished .ends _ _ (p .reached .journal) (p .reached .sofar) (p .reached .stands) in
           ap (λ (x : List ℕ). wrote ++ x) text
           ∙ (sym (p .reached .output [])
           ∙ ap (outputFrom m []) (sym all ∙ rw (le-ltb (t .from) (t .to) none, e .nothing, append-nil read)))
@@ -170,17 +171,23 @@ module _ (m : Map) where
           let q = a .reads (omega arith) in
           elim (zero-or (q .0)) [ yes e ↦ last (omega arith) p (q .1 .end e) | no ne ↦ absurd (clash ends (q .1 .more ne .0)) ]
 
+-- "The program's journal holds 1,000 edits."
+thousand : (words : ℕ) → words ≡ 16016 → placesOf words ≡ 1000
+unfolding placesOf
+thousand words e = ap placesOf e
+
 -- from the start on, which is never refused
-pub program-output : (w₀ w line w′ line′ : List ℕ) (v : Verdict) (r : Turn) → 15376 ≤ length w₀ → 65 ≤ length line → Started w₀ v w → Served w line r w′ line′ → Ran r
-unfolding output room answer _when_ verdictSays given
-program-output w₀ w line w′ line′ v r enough fits started s = record {
-  mesh = w;
+pub program-output : (w j s line : List ℕ) (w₀ w′ : Memory) (line′ : List ℕ) (v : Verdict) (r : Turn) → 15376 ≤ length w → length j ≡ 16016 → 15376 ≤ length s → 65 ≤ length line
+    → Started (memory w j s) v w₀ → Served w₀ line r w′ line′ → Ran r
+unfolding output room answer _when_ formatAnswer verdictSays given
+program-output w j s line w₀ w′ line′ v r hw hj hs fits started served = record {
+  memory = w₀;
   line = line;
-  mesh′ = w′;
+  memory′ = w′;
   line′ = line′;
-  served = s;
-  answers = λ ends. served-output (empty (capacities 0 0)) (started .stands accepted line fits) (s .turns) ends;
+  served = served;
+  answers = λ ends. served-output (Frames.begun 1000 0 0) (rw (thousand (length j) hj) at (started .stands accepted line fits)) (served .turns) ends;
 }
   where
     accepted : v ≡ Accepted
-    accepted = verdict-one v Accepted (started .says ∙ rw (le-ltb (length w₀) 15376 enough))
+    accepted = verdict-one v Accepted (started .begins .says ∙ rw (le-ltb (length w) 15376 hw, le-ltb (length j) 16 (omega arith), le-ltb (length s) 15376 hs))

@@ -18,6 +18,7 @@ use Rattle.words.specs.Words.{partOf}
 use Rattle.words.proofs.Fits.{part-length}
 use Rattle.frames.specs.Forms.{placeAfter, Appended}
 use Rattle.frames.proofs.Append.{append-length}
+use Rattle.reply.specs.Memory.{Memory}
 use Rattle.input.specs.declared.Fed.{Fed}
 use Rattle.input.specs.Fed.{Feeding, Finished}
 use Rattle.desk.specs.declared.Turn.{Turn}
@@ -39,7 +40,7 @@ first-length o text n from bytes h is z e =
     let whole : text ≡ partOf o 0 n = is ∙ rw (k, z) in
     e ∙ (ap length whole ∙ part-length o 0 n (omega arith))
 
-module _ (w line : List ℕ) (t : Turn) (piece o list : List ℕ) (fed : Fed) (w′ line′ o′ : List ℕ) (f : Feeding w line (t .length) list o fed w′ line′ o′) where
+module _ (w : Memory) (line : List ℕ) (t : Turn) (piece o list : List ℕ) (fed : Fed) (w′ : Memory) (line′ o′ : List ℕ) (f : Feeding w line (t .length) list o fed w′ line′ o′) where
   written-within : fed .written ≤ length o′
   written-within = omega (arith, f .written, ap length (f .out), length-append (f .text) (drop (length (f .text)) o))
 
@@ -123,25 +124,25 @@ module _ (got : ℤ) (fits : SFits w64 got) where
       goes = λ _. refl;
     }
 
-module _ (w line : List ℕ) (t : Turn) (piece o : List ℕ) (r : Turn) where
-  pub turn-answers : (w′ line′ o′ : List ℕ) → t .from < t .to → Answered w line t piece o r w′ line′ o′ → Turned w line t piece o r w′ line′ piece o′
+module _ (w : Memory) (line : List ℕ) (t : Turn) (piece o : List ℕ) (r : Turn) where
+  pub turn-answers : (w′ : Memory) (line′ o′ : List ℕ) → t .from < t .to → Answered w line t piece o r w′ line′ o′ → Turned w line t piece o r w′ line′ piece o′
   turn-answers w′ line′ o′ h a = record { answers = λ _. (a, refl); reads = λ z. absurd (omega arith) }
 
   pub turn-reads : (got : ℤ) (piece′ o′ : List ℕ) → t .to ≤ t .from → AfterRead got (t .length) piece′ o r o′ → Turned w line t piece o r w line piece′ o′
   turn-reads got piece′ o′ h a = record { answers = λ z. absurd (omega arith); reads = λ _. (got, a, refl, refl) }
 
 -- some turns, and how many are left
-pub record Serving (w₀ line₀ w line piece : List ℕ) (t : Turn) (left : ℕ) : Type 0 where
+pub record Serving (w₀ : Memory) (line₀ : List ℕ) (w : Memory) (line piece : List ℕ) (t : Turn) (left : ℕ) : Type 0 where
   pub count : ℕ
   pub read : List ℕ
   pub wrote : List ℕ
   pub turns : Turns count w₀ line₀ w line piece t read wrote
   pub counted : count + left ≡ 18446744073709551615
 
-pub serving-none : (w line piece : List ℕ) (t : Turn) (left : ℕ) → t ≡ begin → left ≡ 18446744073709551615 → Serving w line w line piece t left
+pub serving-none : (w : Memory) (line piece : List ℕ) (t : Turn) (left : ℕ) → t ≡ begin → left ≡ 18446744073709551615 → Serving w line w line piece t left
 serving-none w line piece t left e all = record { count = 0; read = []; wrote = []; turns = rw e begun; counted = omega arith }
 
-pub serving-more : (w₀ line₀ w line piece o : List ℕ) (t : Turn) (left : ℕ) (w′ line′ piece′ o′ : List ℕ) (r : Turn) (less : ℕ) → Serving w₀ line₀ w line piece t left
+pub serving-more : (w₀ : Memory) (line₀ : List ℕ) (w : Memory) (line piece o : List ℕ) (t : Turn) (left : ℕ) (w′ : Memory) (line′ piece′ o′ : List ℕ) (r : Turn) (less : ℕ) → Serving w₀ line₀ w line piece t left
     → t .on ≡ true → 775 ≤ length o → Turned w line t piece o r w′ line′ piece′ o′ → less + 1 ≡ left → Serving w₀ line₀ w′ line′ piece′ r less
 serving-more w₀ line₀ w line piece o t left w′ line′ piece′ o′ r less s on h a e = record {
   count = suc (s .count);
@@ -151,7 +152,7 @@ serving-more w₀ line₀ w line piece o t left w′ line′ piece′ o′ r les
   counted = omega (arith, s .counted);
 }
 
-module _ (w₀ line₀ w line piece : List ℕ) (t : Turn) (left : ℕ) (s : Serving w₀ line₀ w line piece t left) where
+module _ (w₀ : Memory) (line₀ : List ℕ) (w : Memory) (line piece : List ℕ) (t : Turn) (left : ℕ) (s : Serving w₀ line₀ w line piece t left) where
   served-so : (t .on ≡ true → s .count ≡ 18446744073709551615) → Served w₀ line₀ t w line
   served-so stops = record { count = s .count; piece = piece; read = s .read; wrote = s .wrote; turns = s .turns; stops = stops }
 

@@ -7,6 +7,7 @@
 // standard error. What it writes for `stdin` is held to `stdout`, the worked example of the outline.
 ghost use mathlib.Core.Path.{_≡_};
 ghost use lib.ListN.{length};
+ghost use Rattle.reply.specs.Memory.{memory};
 ghost use Rattle.desk.specs.Turns.{Answered, EndAnswered, AfterRead, Turned, Served, Ran};
 use input::feed;
 use input::finish;
@@ -47,10 +48,26 @@ fn write_out(text: &[u8]) -> Sent
 }
 
 // What is left of a piece answered, as far as the output has room.
-fn answer_piece(mesh: &mut [u32], line: &mut [u8], at: Turn, piece: &[u8], out: &mut [u8]) -> Turn
-    ensures { λ r. ⌜ Answered (now (mesh .entry)) (now (line .entry)) at (now (piece .entry)) (now (out .entry)) r (now (mesh .exit)) (now (line .exit)) (now (out .exit)) ⌝ }
+fn answer_piece(
+    mesh: &mut [u32],
+    journal: &mut [u32],
+    starting: &mut [u32],
+    line: &mut [u8],
+    at: Turn,
+    piece: &[u8],
+    out: &mut [u8],
+) -> Turn
+    ensures { λ r. ⌜ Answered (memory (now (mesh .entry)) (now (journal .entry)) (now (starting .entry))) (now (line .entry)) at (now (piece .entry)) (now (out .entry)) r (memory (now (mesh .exit)) (now (journal .exit)) (now (starting .exit))) (now (line .exit)) (now (out .exit)) ⌝ }
 {
-    let fed = feed(mesh, line, at.length, part(piece, at.from, at.to), out);
+    let fed = feed(
+        mesh,
+        journal,
+        starting,
+        line,
+        at.length,
+        part(piece, at.from, at.to),
+        out,
+    );
     let sent = write_out(part(out, 0, fed.written));
     Turn {
         on: sent.whole,
@@ -115,19 +132,27 @@ fn after_read(got: isize, length: usize, piece: &[u8], out: &mut [u8]) -> Turn
 }
 
 // One turn: what is left of the piece is answered; where nothing is left, another is read.
-fn one_turn(mesh: &mut [u32], line: &mut [u8], piece: &mut [u8], out: &mut [u8], at: Turn) -> Turn
-    ensures { λ r. ⌜ Turned (now (mesh .entry)) (now (line .entry)) at (now (piece .entry)) (now (out .entry)) r (now (mesh .exit)) (now (line .exit)) (now (piece .exit)) (now (out .exit)) ⌝ }
+fn one_turn(
+    mesh: &mut [u32],
+    journal: &mut [u32],
+    starting: &mut [u32],
+    line: &mut [u8],
+    piece: &mut [u8],
+    out: &mut [u8],
+    at: Turn,
+) -> Turn
+    ensures { λ r. ⌜ Turned (memory (now (mesh .entry)) (now (journal .entry)) (now (starting .entry))) (now (line .entry)) at (now (piece .entry)) (now (out .entry)) r (memory (now (mesh .exit)) (now (journal .exit)) (now (starting .exit))) (now (line .exit)) (now (piece .exit)) (now (out .exit)) ⌝ }
 {
     if at.from < at.to {
-        return answer_piece(mesh, line, at, piece, out);
+        return answer_piece(mesh, journal, starting, line, at, piece, out);
     }
     let got = libc::read(STDIN_FILENO, piece);
     after_read(got, at.length, piece, out)
 }
 
 // A proved loop has to end, and nothing says that the input does. So the loop counts its turns down, from a number that no run uses up.
-fn serve(mesh: &mut [u32], line: &mut [u8]) -> Turn
-    ensures { λ r. ⌜ Served (now (mesh .entry)) (now (line .entry)) r (now (mesh .exit)) (now (line .exit)) ⌝ }
+fn serve(mesh: &mut [u32], journal: &mut [u32], starting: &mut [u32], line: &mut [u8]) -> Turn
+    ensures { λ r. ⌜ Served (memory (now (mesh .entry)) (now (journal .entry)) (now (starting .entry))) (now (line .entry)) r (memory (now (mesh .exit)) (now (journal .exit)) (now (starting .exit))) (now (line .exit)) ⌝ }
 {
     let mut read = io::large_buffer();
     let piece: &mut [u8] = &mut read;
@@ -143,20 +168,22 @@ fn serve(mesh: &mut [u32], line: &mut [u8]) -> Turn
     };
     let mut turns = u64::MAX;
     while turns > 0 && at.on {
-        at = one_turn(mesh, line, piece, out, at);
+        at = one_turn(mesh, journal, starting, line, piece, out, at);
         turns -= 1;
     }
     at
 }
 
-// The program, from its start to its end.
+// The program, from its start to its end, with a journal of 1,000 edits.
 fn run() -> Turn
     ensures { λ r. ⌜ Ran r ⌝ }
 {
     let mut mesh = [0u32; 15376];
+    let mut journal = [0u32; 16016];
+    let mut starting = [0u32; 15376];
     let mut line = [0u8; 65];
-    start(&mut mesh);
-    serve(&mut mesh, &mut line)
+    start(&mut mesh, &mut journal, &mut starting);
+    serve(&mut mesh, &mut journal, &mut starting, &mut line)
 }
 
 fn main() {
