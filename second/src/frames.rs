@@ -3,12 +3,16 @@
 //! and counts; one byte for codes, dimensions and facets."
 
 use crate::calls::FIRST_EDITION;
+use crate::journal::{Edit, Journal, EDIT_WORDS, HEAD_WORDS};
 use crate::shapes::HALF_FACETS_A_CELL;
 use crate::{room, Memory, Mesh, Refusal};
 
 /// "The program keeps at most 384 marks and 384 cells; more is refused with 1."
 pub const MOST_MARKS: u32 = 384;
 pub const MOST_CELLS: u32 = 384;
+
+/// "The program's journal holds 1,000 edits."
+pub const JOURNAL_EDITS: usize = 1000;
 
 /// "more than 64 digits" is a bad frame.
 pub const MOST_DIGITS: usize = 64;
@@ -19,6 +23,8 @@ const ACCEPTED: u8 = 0x00;
 /// The frame program between two bytes of its input.
 pub struct Program {
     memory: Memory,
+    journal: Journal,
+    start: Memory,
     line: Line,
 }
 
@@ -33,30 +39,11 @@ struct Line {
 
 /// A line that is no bad frame.
 enum Frame {
-    Format {
-        marks: u32,
-        cells: u32,
-    },
-    Insert {
-        cell: u32,
-        code: u32,
-        marks: Vec<u32>,
-    },
-    Remove {
-        cell: u32,
-    },
-    Star {
-        dimension: u32,
-        mark: u32,
-    },
-    Anchors {
-        dimension: u32,
-        mark: u32,
-    },
-    Sibling {
-        cell: u32,
-        facet: u32,
-    },
+    Format { marks: u32, cells: u32 },
+    Edit { day: u32, edit: Edit },
+    Star { dimension: u32, mark: u32 },
+    Anchors { dimension: u32, mark: u32 },
+    Sibling { cell: u32, facet: u32 },
 }
 
 /// The output for a whole input. "Empty input writes nothing."
@@ -69,13 +56,26 @@ pub fn run(input: &[u8]) -> Vec<u8> {
 }
 
 impl Program {
-    /// "It starts with capacities 0 and 0."
+    /// "It starts with capacities 0 and 0." "In the frame program its start ..
+    /// begin[s]" a journal.
     pub fn new() -> Program {
         let words = room(MOST_MARKS, MOST_CELLS);
         let mesh = Some(Mesh::formatted(0, 0, FIRST_EDITION));
-        let memory = Memory { words, mesh };
-        let line = Line::new();
-        Program { memory, line }
+        let mut program = Program {
+            memory: Memory { words, mesh },
+            journal: Journal::lent(HEAD_WORDS + EDIT_WORDS * JOURNAL_EDITS),
+            start: Memory { words, mesh: None },
+            line: Line::new(),
+        };
+        program.begin();
+        program
+    }
+
+    /// A journal of the map as it is; there is room for any.
+    fn begin(&mut self) {
+        self.journal
+            .begin(&self.memory, &mut self.start)
+            .expect("room for a journal of any map");
     }
 
     /// Reads the next part of the input, cut anywhere, and adds an answer line
@@ -108,16 +108,16 @@ impl Program {
     /// The bytes after the accepting byte.
     fn obey(&mut self, frame: Frame) -> Result<Vec<u8>, Refusal> {
         let memory = &mut self.memory;
-        let nothing = |()| Vec::new();
         match frame {
             Frame::Format { marks, cells } => {
                 if marks > MOST_MARKS || cells > MOST_CELLS {
                     return Err(Refusal::CapacityAbove);
                 }
-                memory.format(marks, cells).map(nothing)
+                memory.format(marks, cells)?;
+                self.begin();
+                Ok(Vec::new())
             }
-            Frame::Insert { cell, code, marks } => memory.insert(cell, code, &marks).map(nothing),
-            Frame::Remove { cell } => memory.remove(cell).map(nothing),
+            Frame::Edit { day, edit } => self.journal.enter(memory, day, edit).map(|()| Vec::new()),
             Frame::Star { dimension, mark } => memory
                 .star(dimension, mark, usize::MAX)
                 .map(|star| counted(&star, |&cell| two_bytes(cell))),
@@ -170,24 +170,31 @@ impl Line {
 
 impl Frame {
     /// None for an empty line, an unknown code, "a frame that stops before its
-    /// fixed fields, trailing bytes, half a mark".
+    /// fixed fields, trailing bytes, half a mark"; "an edit's code is followed by
+    /// two bytes of day".
     fn from_bytes(bytes: &[u8]) -> Option<Frame> {
         match *bytes {
             [0xf0, m0, m1, c0, c1] => Some(Frame::Format {
                 marks: number(m0, m1),
                 cells: number(c0, c1),
             }),
-            [0xa0, c0, c1, code, ref marks @ ..] => {
+            [0xa0, d0, d1, c0, c1, code, ref marks @ ..] => {
                 let pairs = marks.chunks_exact(2);
                 let whole = pairs.remainder().is_empty();
-                whole.then(|| Frame::Insert {
-                    cell: number(c0, c1),
-                    code: code.into(),
-                    marks: pairs.map(|pair| number(pair[0], pair[1])).collect(),
+                whole.then(|| Frame::Edit {
+                    day: number(d0, d1),
+                    edit: Edit::Insert {
+                        cell: number(c0, c1),
+                        code: code.into(),
+                        marks: pairs.map(|pair| number(pair[0], pair[1])).collect(),
+                    },
                 })
             }
-            [0xd0, c0, c1] => Some(Frame::Remove {
-                cell: number(c0, c1),
+            [0xd0, d0, d1, c0, c1] => Some(Frame::Edit {
+                day: number(d0, d1),
+                edit: Edit::Remove {
+                    cell: number(c0, c1),
+                },
             }),
             [0x50, dimension, m0, m1] => Some(Frame::Star {
                 dimension: dimension.into(),

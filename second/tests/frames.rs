@@ -2,17 +2,18 @@
 
 use second::frames::{run, Program};
 
-/// The outline's worked case, input left, output right.
+/// The outline's worked case, input left, output right; "an edit's code is
+/// followed by two bytes of day": 1, and from the first remove on 2.
 const WORKED: [(&str, &str); 10] = [
     ("f000060004", "00"),
-    ("a0000002000000010002", "00"),
-    ("a0000102000200010003", "00"),
+    ("a00001000002000000010002", "00"),
+    ("a00001000102000200010003", "00"),
     ("50020001", "00000200000001"),
     ("51020001", "000001000000"),
     ("5b000001", "0000010002"),
-    ("d00000", "00"),
+    ("d000020000", "00"),
     ("50020001", "0000010001"),
-    ("d00000", "05"),
+    ("d000020000", "05"),
     ("", "0f"),
 ];
 
@@ -49,8 +50,8 @@ fn check_bad(line: &[u8]) {
 
 #[test]
 fn the_worked_case_byte_for_byte() {
-    let input = b"f000060004\na0000002000000010002\na0000102000200010003\n50020001\n\
-        51020001\n5b000001\nd00000\n50020001\nd00000\n\n";
+    let input = b"f000060004\na00001000002000000010002\na00001000102000200010003\n\
+        50020001\n51020001\n5b000001\nd000020000\n50020001\nd000020000\n\n";
     let output = "00\n00\n00\n00000200000001\n000001000000\n0000010002\n00\n0000010001\n05\n0f\n";
     assert_eq!(text(&run(input)), output);
     check(&WORKED);
@@ -84,8 +85,8 @@ fn it_starts_with_capacities_0_and_0() {
     check(&[
         ("50020000", "08"),
         ("5b000000", "03"),
-        ("a0000002000000010002", "03"),
-        ("d00000", "03"),
+        ("a00001000002000000010002", "03"),
+        ("d000010000", "03"),
     ]);
 }
 
@@ -97,7 +98,13 @@ fn rule_an_empty_line() {
 
 #[test]
 fn rule_an_odd_count_of_digits() {
-    for line in ["f", "f00006000", "f0000600040", "a000030200030004000", "5"] {
+    for line in [
+        "f",
+        "f00006000",
+        "f0000600040",
+        "a0000100030200030004000",
+        "5",
+    ] {
         check_bad(line.as_bytes());
     }
 }
@@ -107,7 +114,7 @@ fn rule_another_character() {
     for line in [
         "F000060004",
         "f00006000A",
-        "D00000",
+        "D000010000",
         "f000060004\r",
         "\r",
         " ",
@@ -121,12 +128,12 @@ fn rule_another_character() {
         "f00006000/",
         "f00006000:",
         "f00006000@",
-        "d000\u{0}",
-        "d0é0",
+        "d00001000\u{0}",
+        "d00001é0",
     ] {
         check_bad(line.as_bytes());
     }
-    check_bad(b"d0\xff0");
+    check_bad(b"d00001\xff0");
     check_bad(b"\xff");
 }
 
@@ -134,8 +141,8 @@ fn rule_another_character() {
 fn every_byte_but_a_digit_and_the_line_end_is_another_character() {
     for byte in 0..=255u8 {
         if byte != b'\n' && !b"0123456789abcdef".contains(&byte) {
-            check_bad(&[b"d0000".as_slice(), &[byte]].concat());
-            check_bad(&[b"d00000".as_slice(), &[byte]].concat());
+            check_bad(&[b"d00001000".as_slice(), &[byte]].concat());
+            check_bad(&[b"d000010000".as_slice(), &[byte]].concat());
         }
     }
 }
@@ -157,8 +164,8 @@ fn rule_an_unknown_code() {
 fn rule_a_frame_that_stops_before_its_fixed_fields() {
     for whole in [
         "f000060004",
-        "a0000302",
-        "d00000",
+        "a00001000302",
+        "d000010000",
         "50020001",
         "51020001",
         "5b000001",
@@ -171,7 +178,13 @@ fn rule_a_frame_that_stops_before_its_fixed_fields() {
 
 #[test]
 fn rule_trailing_bytes() {
-    for whole in ["f000060004", "d00000", "50020001", "51020001", "5b000001"] {
+    for whole in [
+        "f000060004",
+        "d000010000",
+        "50020001",
+        "51020001",
+        "5b000001",
+    ] {
         for trailing in ["00", "ff", "0000", "000000"] {
             check_bad(format!("{whole}{trailing}").as_bytes());
         }
@@ -180,29 +193,29 @@ fn rule_trailing_bytes() {
 
 #[test]
 fn rule_half_a_mark() {
-    check_bad(b"a000030200");
-    check_bad(b"a0000302000000010003ff");
+    check_bad(b"a0000100030200");
+    check_bad(b"a00001000302000000010003ff");
     // Also where the type is unknown or the cell is not below the capacity.
-    check_bad(b"a000030900");
-    check_bad(b"a0ffff0200");
+    check_bad(b"a0000100030900");
+    check_bad(b"a00001ffff0200");
 }
 
-/// 64 digits are an insert with 14 marks.
+/// 64 digits are an insert with 13 marks.
 #[test]
 fn rule_more_than_64_digits() {
-    let insert = |marks: usize| format!("a0000302{}", "0005".repeat(marks));
-    assert_eq!(insert(14).len(), 64);
-    check_on_map(&[(&insert(14), "07")]);
-    check_bad(insert(15).as_bytes());
-    check_bad(format!("{}0", insert(14)).as_bytes());
-    check_bad(format!("{}00", insert(14)).as_bytes());
+    let insert = |marks: usize| format!("a00001000302{}", "0005".repeat(marks));
+    assert_eq!(insert(13).len(), 64);
+    check_on_map(&[(&insert(13), "07")]);
+    check_bad(insert(14).as_bytes());
+    check_bad(format!("{}0", insert(13)).as_bytes());
+    check_bad(format!("{}00", insert(13)).as_bytes());
     // A whole frame in the first 64 digits is not obeyed.
-    check_bad(format!("d00000{}", "0".repeat(60)).as_bytes());
+    check_bad(format!("d000010000{}", "0".repeat(60)).as_bytes());
 }
 
 #[test]
 fn rule_a_last_line_without_its_end() {
-    for last in ["f000060004", "f", "zz", "d00000", "a0"] {
+    for last in ["f000060004", "f", "zz", "d000010000", "a0"] {
         let input = format!("f000060004\n{last}");
         assert_eq!(text(&run(input.as_bytes())), "00\n0f\n");
         assert_eq!(text(&run(last.as_bytes())), "0f\n");
@@ -242,9 +255,9 @@ fn a_line_has_one_answer() {
 fn capacities_384_and_385() {
     check(&[
         ("f001800180", "00"),
-        ("a0017f01017f0000", "00"),
-        ("a001800100010002", "03"),
-        ("a000000101800000", "08"),
+        ("a00001017f01017f0000", "00"),
+        ("a0000101800100010002", "03"),
+        ("a0000100000101800000", "08"),
         ("f001810180", "01"),
         ("f001800181", "01"),
         ("f0ffffffff", "01"),
@@ -263,18 +276,18 @@ fn capacities_384_and_385() {
 #[test]
 fn refusal_3_by_each_frame() {
     check_on_map(&[
-        ("a0000402000000010003", "03"),
-        ("d00004", "03"),
+        ("a00001000402000000010003", "03"),
+        ("d000010004", "03"),
         ("5b000400", "03"),
-        ("d0ffff", "03"),
+        ("d00001ffff", "03"),
     ]);
 }
 
 #[test]
 fn refusals_4_and_5_by_each_frame() {
     check_on_map(&[
-        ("a0000002000300040005", "04"),
-        ("d00003", "05"),
+        ("a00001000002000300040005", "04"),
+        ("d000010003", "05"),
         ("5b000300", "05"),
     ]);
 }
@@ -284,12 +297,12 @@ fn refusals_4_and_5_by_each_frame() {
 #[test]
 fn refusals_6_and_7_by_each_frame() {
     check_on_map(&[
-        ("a0000302", "07"),
-        ("a000030200000001", "07"),
-        ("a00003020000000100030004", "07"),
-        ("a0000309", "06"),
-        ("a000030000000001", "06"),
-        ("a00003ff0000000100030004", "06"),
+        ("a00001000302", "07"),
+        ("a0000100030200000001", "07"),
+        ("a000010003020000000100030004", "07"),
+        ("a00001000309", "06"),
+        ("a0000100030000000001", "06"),
+        ("a000010003ff0000000100030004", "06"),
         ("50000001", "06"),
         ("50040001", "06"),
         ("51000001", "06"),
@@ -300,17 +313,20 @@ fn refusals_6_and_7_by_each_frame() {
 #[test]
 fn refusals_8_to_11_by_each_frame() {
     check_on_map(&[
-        ("a0000302000000010006", "08"),
+        ("a00001000302000000010006", "08"),
         ("50020006", "08"),
         ("51020006", "08"),
-        ("a0000302000000010001", "09"),
-        ("a0000302000200000001", "0a"),
+        ("a00001000302000000010001", "09"),
+        ("a00001000302000200000001", "0a"),
     ]);
     let mut lines = vec![("f001800180".to_string(), "00".to_string())];
     for cell in 0..128 {
-        lines.push((format!("a0{cell:04x}010000{:04x}", cell + 1), "00".into()));
+        lines.push((
+            format!("a00001{cell:04x}010000{:04x}", cell + 1),
+            "00".into(),
+        ));
     }
-    lines.push(("a0008001000000ff".into(), "0b".into()));
+    lines.push(("a00001008001000000ff".into(), "0b".into()));
     let cells: String = (0..128).map(|cell| format!("{cell:04x}")).collect();
     lines.push(("50010000".into(), format!("000080{cells}")));
     lines.push(("5b007f00".into(), "0000000001".into()));
@@ -339,16 +355,16 @@ fn a_sibling_is_followed_by_its_way() {
         ("f0000b0004", "00"),
         // a brick, and on its face of the marks 4 to 7 a pyramid that runs the
         // same way, one in crossed order and one that runs the opposite way
-        ("a000000700000001000200030004000500060007", "00"),
-        ("a000010500070006000500040008", "00"),
-        ("a000020500070004000600050009", "00"),
-        ("a00003050004000500060007000a", "00"),
+        ("a0000100000700000001000200030004000500060007", "00"),
+        ("a0000100010500070006000500040008", "00"),
+        ("a0000100020500070004000600050009", "00"),
+        ("a000010003050004000500060007000a", "00"),
         ("5b000000", "0000000000"),
         ("5b000005", "0000010001"),
         ("5b000100", "0000020003"),
         ("5b000200", "0000030003"),
         ("5b000300", "0000000502"),
-        ("d00002", "00"),
+        ("d000010002", "00"),
         ("5b000100", "0000030002"),
         ("5b000200", "05"),
     ]);
@@ -362,10 +378,10 @@ fn the_earlier_fault_is_answered() {
         ("51000006", "06"),
         ("5b0004ff", "03"),
         ("5b0003ff", "05"),
-        ("a0000409", "03"),
-        ("a0000009", "04"),
-        ("a00003020006", "07"),
-        ("a0000302000000000006", "08"),
+        ("a00001000409", "03"),
+        ("a00001000009", "04"),
+        ("a000010003020006", "07"),
+        ("a00001000302000000000006", "08"),
     ]);
 }
 
@@ -374,15 +390,15 @@ fn the_earlier_fault_is_answered() {
 fn a_bad_frame_is_answered_before_any_other_fault() {
     let refused = [
         ("f0ffffffff", "01"),
-        ("a0ffff02000000010003", "03"),
-        ("a0000002000300040005", "04"),
-        ("d00003", "05"),
-        ("a0000309", "06"),
+        ("a00001ffff02000000010003", "03"),
+        ("a00001000002000300040005", "04"),
+        ("d000010003", "05"),
+        ("a00001000309", "06"),
         ("50090000", "06"),
-        ("a0000302", "07"),
+        ("a00001000302", "07"),
         ("51020006", "08"),
-        ("a0000302000000010001", "09"),
-        ("a0000302000200000001", "0a"),
+        ("a00001000302000000010001", "09"),
+        ("a00001000302000200000001", "0a"),
         ("5b0000ff", "0d"),
     ];
     check_on_map(&refused);
@@ -400,9 +416,9 @@ fn a_bad_frame_is_answered_before_any_other_fault() {
 fn anchors_are_listed_with_cell_and_facet() {
     check(&[
         ("f000060004", "00"),
-        ("a0000002000000010002", "00"),
-        ("a0000302000400030000", "00"),
-        ("a000010100050000", "00"),
+        ("a00001000002000000010002", "00"),
+        ("a00001000302000400030000", "00"),
+        ("a0000100010100050000", "00"),
         ("51020000", "000002000000000301"),
         ("51010000", "000001000101"),
         ("51030000", "000000"),
@@ -410,4 +426,96 @@ fn anchors_are_listed_with_cell_and_facet() {
         ("50010000", "0000010001"),
         ("50030000", "000000"),
     ]);
+}
+
+/// "an edit's code is followed by two bytes of day": the frames of before
+/// request 9 stop before their fixed fields, or have another meaning.
+#[test]
+fn a_frame_without_its_day_is_bad() {
+    check_bad(b"d00000");
+    check_bad(b"a0000302");
+}
+
+/// "entry 20 for a day before the last, then the mesh's own": refused edits
+/// enter no day, questions have none.
+#[test]
+fn refusal_20_by_each_frame() {
+    check(&[
+        ("f000060004", "00"),
+        ("a00007000002000000010002", "00"),
+        ("a0000600010100030004", "14"),
+        ("d000060000", "14"),
+        // before the mesh's own: a dead cell, a number beyond the capacity
+        ("d000000003", "14"),
+        ("a00006000409", "14"),
+        // but half a mark is a bad frame
+        ("a0000600040900", "0f"),
+        // the mesh's own refusal enters no day
+        ("d0ffff0003", "05"),
+        ("a0000700010100030004", "00"),
+        ("d0ffff0000", "00"),
+        ("a0fffe00000100000001", "14"),
+        ("a0ffff00000100000001", "00"),
+        ("50010000", "0000010000"),
+    ]);
+}
+
+/// "In the frame program its start and each accepted f0 begin one", so days
+/// begin again; a refused f0 changes nothing.
+#[test]
+fn an_accepted_format_begins_a_journal() {
+    check(&[
+        ("f000060004", "00"),
+        ("a0000900000100000001", "00"),
+        ("f001810004", "01"),
+        ("d000080000", "14"),
+        ("50010000", "0000010000"),
+        ("f000060004", "00"),
+        ("50010000", "000000"),
+        ("a0000100000100000001", "00"),
+        ("d000000000", "14"),
+        ("d000010000", "00"),
+    ]);
+}
+
+/// "The program's journal holds 1,000 edits": the mesh's own refusal before 23,
+/// and "20 for a day before the last" before both; the next accepted f0 makes
+/// room.
+#[test]
+fn the_journal_is_full_after_1000_edits() {
+    let mut lines = vec![("f000020002".to_string(), "00".to_string())];
+    for day in 0..500 {
+        lines.push((format!("a0{day:04x}00000100000001"), "00".into()));
+        // refused edits take no room
+        lines.push((format!("a0{day:04x}00000100000001"), "04".into()));
+        lines.push((format!("d0{day:04x}0000"), "00".into()));
+    }
+    for (line, answer) in [
+        ("a001f300000100000001", "17"),
+        ("a001f200000100000001", "14"),
+        ("a001f300000100000002", "08"),
+        ("d001f30000", "05"),
+        ("d0ffff0002", "03"),
+        ("a0ffff00010100010000", "17"),
+        ("50010000", "000000"),
+        ("f001810000", "01"),
+        ("a0ffff00010100010000", "17"),
+        ("f000020002", "00"),
+        ("a0000000010100010000", "00"),
+        ("50010000", "0000010001"),
+    ] {
+        lines.push((line.into(), answer.into()));
+    }
+    let lines: Vec<(&str, &str)> = lines
+        .iter()
+        .map(|(line, answer)| (line.as_str(), answer.as_str()))
+        .collect();
+    check(&lines);
+}
+
+/// The start begins a journal too: before the first f0 an edit gets the mesh's
+/// own refusal.
+#[test]
+fn the_start_begins_a_journal() {
+    check(&[("d0ffff0000", "03"), ("d000000000", "03")]);
 }

@@ -26,7 +26,7 @@ fn run(arguments: &[&str], input: &[u8]) -> Output {
 
 #[test]
 fn without_an_argument_it_answers_frames() {
-    let output = run(&[], b"f000060004\na0000002000000010002\n50020001\n\nd0");
+    let output = run(&[], b"f000060004\na00001000002000000010002\n50020001\n\nd0");
     assert_eq!(output.stdout, b"00\n00\n0000010000\n0f\n0f\n");
     assert_eq!(output.stderr, b"");
     assert_eq!(output.status.code(), Some(0));
@@ -60,7 +60,7 @@ fn a_complete_line_is_answered_before_the_input_ends() {
             let _ = answers.send(line.expect("a line of text"));
         }
     });
-    for (frame, due) in [("f000060004\n", "00"), ("d00000\n", "05")] {
+    for (frame, due) in [("f000060004\n", "00"), ("d000010000\n", "05")] {
         to_program.write_all(frame.as_bytes()).expect("it reads");
         let answer = wait.recv_timeout(Duration::from_secs(10));
         assert_eq!(answer.as_deref(), Ok(due));
