@@ -8,11 +8,13 @@ pub enum Frame {
         cells: u32,
     },
     Insert {
+        day: u32,
         cell: u32,
         code: u8,
         marks: Vec<u32>,
     },
     Remove {
+        day: u32,
         cell: u32,
     },
     Star {
@@ -33,11 +35,16 @@ impl Frame {
     pub fn digits(&self) -> String {
         match self {
             Frame::Format { marks, cells } => format!("f0{marks:04x}{cells:04x}"),
-            Frame::Insert { cell, code, marks } => {
+            Frame::Insert {
+                day,
+                cell,
+                code,
+                marks,
+            } => {
                 let marks: String = marks.iter().map(|mark| format!("{mark:04x}")).collect();
-                format!("a0{cell:04x}{code:02x}{marks}")
+                format!("a0{day:04x}{cell:04x}{code:02x}{marks}")
             }
-            Frame::Remove { cell } => format!("d0{cell:04x}"),
+            Frame::Remove { day, cell } => format!("d0{day:04x}{cell:04x}"),
             Frame::Star { dimension, mark } => format!("50{dimension:02x}{mark:04x}"),
             Frame::Anchors { dimension, mark } => format!("51{dimension:02x}{mark:04x}"),
             Frame::Sibling { cell, facet } => format!("5b{cell:04x}{facet:02x}"),

@@ -4,7 +4,8 @@
 //! The map is drawn in phases, each with a map of its own kind: few marks and
 //! many cells (edges with many sharers, sheets that touch in a mark), solids,
 //! bars, all of them mixed; cubes and what they are cut into; a mark with its 128th and 129th cell; a map of 384
-//! cells and one more. Cells are removed and come back throughout.
+//! cells and one more; a cell that comes and goes until the journal is full. Cells are removed and come back throughout. Days
+//! mostly stay or go on, and are now and then before the last.
 
 mod frames;
 
@@ -16,6 +17,7 @@ use streams::lattice;
 
 const USAGE: &str = "usage: streams SEED FRAMES [small | grid]";
 const MOST: u32 = 384;
+const LAST_DAY: u32 = 65_535;
 const LONG_LINE: usize = 1 << 20;
 
 /// A map that the frames of one phase are about.
@@ -30,6 +32,28 @@ struct Phase {
     frames: u32,
     /// Cells are mostly drawn from so many cubes on a side, if any.
     side: u32,
+}
+
+/// The day of the edits, as it goes on.
+struct Day {
+    now: u32,
+}
+
+impl Day {
+    fn draw(&mut self, chance: &mut Chance) -> u32 {
+        match chance.below(400) {
+            0..=19 => chance.below(self.now + 1),
+            20 => {
+                self.now = self.now.max(chance.below(LAST_DAY + 1));
+                self.now
+            }
+            21..=60 => {
+                self.now = (self.now + 1 + chance.below(9)).min(LAST_DAY);
+                self.now
+            }
+            _ => self.now,
+        }
+    }
 }
 
 fn main() -> ExitCode {
@@ -63,13 +87,16 @@ fn stream(seed: u64, count: u64, small: bool, out: &mut impl Write) -> io::Resul
         let kind = if small {
             chance.below(6)
         } else {
-            chance.below(11)
+            chance.below(12)
         };
         let phase = draw_phase(&mut chance, kind);
+        let mut day = Day {
+            now: chance.below(1000),
+        };
         left -= 1;
         writeln!(out, "{}", format_frame(&mut chance, &phase))?;
         for turn in 0..u64::from(phase.frames).min(left) {
-            let line = draw_line(&mut chance, &phase, kind, turn as u32);
+            let line = draw_line(&mut chance, &phase, kind, turn as u32, &mut day);
             out.write_all(&line)?;
             out.write_all(b"\n")?;
         }
@@ -89,15 +116,26 @@ fn stream(seed: u64, count: u64, small: bool, out: &mut impl Write) -> io::Resul
 fn grid(seed: u64, count: u64, out: &mut impl Write) -> io::Result<()> {
     const WIDE: u32 = 16;
     const HIGH: u32 = 12;
+    const GRID_FORMAT: u64 = 4000;
     let mut chance = Chance::from_seed(seed);
     let (marks, cells) = ((WIDE + 1) * (HIGH + 1), 2 * WIDE * HIGH);
-    writeln!(out, "{}", Frame::Format { marks, cells }.digits())?;
-    for _ in 1..count {
+    let mut day = Day { now: 0 };
+    for turn in 0..count {
+        // the journal is full now and then, and begun again
+        if turn % GRID_FORMAT == 0 {
+            writeln!(out, "{}", Frame::Format { marks, cells }.digits())?;
+            day.now = 0;
+            continue;
+        }
         let cell = chance.below(cells);
         let mark = chance.below(marks);
         let frame = match chance.below(10) {
-            0 | 1 => Frame::Remove { cell },
+            0 | 1 => Frame::Remove {
+                day: day.draw(&mut chance),
+                cell,
+            },
             2..=4 => Frame::Insert {
+                day: day.draw(&mut chance),
                 cell,
                 code: 2,
                 marks: grid_triangle(cell, WIDE),
@@ -154,6 +192,7 @@ fn draw_phase(chance: &mut Chance, kind: u32) -> Phase {
         7 => phase(MOST, MOST, 30, ALL, 15, 1500),
         8 => phase(MOST, MOST, MOST, ALL, 14, 2500),
         9 => cubes(MOST, MOST, 2500),
+        10 => phase(2, 2, 2, &[1], 8, 1200),
         _ => phase(chance.below(5), chance.below(5), 4, ALL, 8, 60),
     }
 }
@@ -169,12 +208,15 @@ fn format_frame(chance: &mut Chance, phase: &Phase) -> String {
     Frame::Format { marks, cells }.digits()
 }
 
-fn draw_line(chance: &mut Chance, phase: &Phase, kind: u32, turn: u32) -> Vec<u8> {
+fn draw_line(chance: &mut Chance, phase: &Phase, kind: u32, turn: u32, day: &mut Day) -> Vec<u8> {
     if kind == 6 && turn < 150 {
-        return full_mark(chance, turn);
+        return full_mark(chance, turn, day);
+    }
+    if kind == 10 && turn < 1100 {
+        return come_and_go(turn, day);
     }
     let frame = match chance.below(100) {
-        0..=49 => draw_edit(chance, phase),
+        0..=49 => draw_edit(chance, phase, day),
         50..=64 => Frame::Star {
             dimension: draw_dimension(chance),
             mark: draw_mark(chance, phase),
@@ -188,7 +230,7 @@ fn draw_line(chance: &mut Chance, phase: &Phase, kind: u32, turn: u32) -> Vec<u8
             facet: draw_facet(chance),
         },
         _ => {
-            let good = draw_edit(chance, phase).digits();
+            let good = draw_edit(chance, phase, day).digits();
             return malformed(chance, good.into_bytes());
         }
     };
@@ -196,7 +238,7 @@ fn draw_line(chance: &mut Chance, phase: &Phase, kind: u32, turn: u32) -> Vec<u8
 }
 
 /// Bars from mark 0 to each other mark: the 128th is the last that fits.
-fn full_mark(chance: &mut Chance, turn: u32) -> Vec<u8> {
+fn full_mark(chance: &mut Chance, turn: u32, day: &mut Day) -> Vec<u8> {
     let frame = if chance.one_in(8) {
         Frame::Anchors {
             dimension: 1,
@@ -204,6 +246,7 @@ fn full_mark(chance: &mut Chance, turn: u32) -> Vec<u8> {
         }
     } else {
         Frame::Insert {
+            day: day.now,
             cell: turn,
             code: 1,
             marks: vec![0, turn + 1],
@@ -212,15 +255,40 @@ fn full_mark(chance: &mut Chance, turn: u32) -> Vec<u8> {
     frame.digits().into_bytes()
 }
 
-fn draw_edit(chance: &mut Chance, phase: &Phase) -> Frame {
+/// A bar inserted and removed, turn by turn: the journal's 1,000th edit is the last that fits.
+fn come_and_go(turn: u32, day: &mut Day) -> Vec<u8> {
+    if turn.is_multiple_of(50) {
+        day.now += 1;
+    }
+    let (day, cell) = (day.now, 0);
+    let frame = if turn.is_multiple_of(2) {
+        Frame::Insert {
+            day,
+            cell,
+            code: 1,
+            marks: vec![0, 1],
+        }
+    } else {
+        Frame::Remove { day, cell }
+    };
+    frame.digits().into_bytes()
+}
+
+fn draw_edit(chance: &mut Chance, phase: &Phase, day: &mut Day) -> Frame {
+    let day = day.draw(chance);
     let cell = draw_cell(chance, phase);
     if chance.below(16) >= phase.inserts {
-        return Frame::Remove { cell };
+        return Frame::Remove { day, cell };
     }
     if phase.side > 0 && !chance.one_in(8) {
         let (code, marks) = lattice::draw(chance, phase.side);
         let code = code as u8;
-        return Frame::Insert { cell, code, marks };
+        return Frame::Insert {
+            day,
+            cell,
+            code,
+            marks,
+        };
     }
     let code = match chance.below(60) {
         0 => chance.below(256) as u8,
@@ -238,7 +306,12 @@ fn draw_edit(chance: &mut Chance, phase: &Phase) -> Frame {
             marks.push(mark);
         }
     }
-    Frame::Insert { cell, code, marks }
+    Frame::Insert {
+        day,
+        cell,
+        code,
+        marks,
+    }
 }
 
 fn draw_mark(chance: &mut Chance, phase: &Phase) -> u32 {
