@@ -4,7 +4,8 @@ use mathlib.Core.Bool.{Bool, true, false, cond}
 use mathlib.Core.List.{List}
 use Prim.Native.Nat.{ℕ, _+_, _<_, _≤_}
 use borrow.Author.Tests.{lt-ltb, le-ltb}
-use lib.Dec.{ltb}
+use lib.Dec.{leb, ltb}
+use lib.ListN.{length}
 use Rattle.numbers.specs.declared.Caps.{Caps}
 use Rattle.store.specs.Open.{opened}
 use Rattle.store.specs.declared.Opened.the-variants.{Mesh, Nothing}
@@ -15,8 +16,9 @@ use Rattle.checks.specs.declared.Opening.{Opening}
 use Rattle.checks.specs.declared.Opening.the-variants.{Open, Refused}
 use Rattle.checks.proofs.Opens.{mesh-opened}
 use Rattle.journal_store.specs.Days.{mostDay}
-use Rattle.journal_store.specs.Journals.{lastIn, isJournal}
-use Rattle.journal.specs.Calls.{entryOpened, fullVerdict}
+use Rattle.journal_store.specs.Entries.{placesOf}
+use Rattle.journal_store.specs.Journals.{entriesIn, lastIn, isJournal}
+use Rattle.journal.specs.Calls.{entryOpened, fullIn, fullVerdict}
 use Rattle.journal.proofs.Both.{none-both, opened-both}
 
 module _ (mesh j : List ℕ) (day : ℕ) where
@@ -43,6 +45,11 @@ module _ (mesh j : List ℕ) (day : ℕ) where
         unfolding entryOpened
         opens-open h =
             rw (opened-both mesh j caps opens ∙ (sym ei ∙ et), le-ltb mostDay day few, ← el, le-ltb day last h) (ap Open (mesh-opened mesh caps opens .1))
+
+-- whether no place is left
+pub full-told : (j : List ℕ) (places entries : ℕ) → places ≡ placesOf (length j) → entries ≡ entriesIn j → leb places entries ≡ fullIn j
+unfolding fullIn
+full-told j places entries ep ee = rw (ep, ee)
 
 -- in a full journal
 pub full-refused : (own : Opening) (why : Refusal) → own ≡ Refused why → Verdict′.Refused why ≡ fullVerdict own
