@@ -291,8 +291,9 @@ uint8_t mk_whole(const uint32_t *mesh, size_t words);
  * MK_NOT_MESH comes first in each call: for a mesh or a starting map that is none, for a journal that is
  * none, and for a journal of other capacities or another edition. It never comes for memory that these
  * calls alone have written since the journal began. What a call answers, and what it writes, is promised
- * for such memory; on any other words it is safe, returns, leaves what was lent as it was where it is
- * refused, and writes within a mesh's room and within the journal's edits alone.
+ * for such memory, and by mk_journal_on and mk_journal_fold for all that mk_journal_whole says yes to. On any
+ * other words a call is safe and returns, leaves what was lent as it was where it is refused, and writes
+ * within a mesh's room and within the journal's edits alone.
  */
 
 /* The words that a journal of so many edits takes: a head of 16, then 16 an edit, as many as fit. */

@@ -10,7 +10,7 @@ use std::hint::black_box;
 const ROUNDS: usize = 5;
 const CELLS: usize = 10_000;
 const EDITS: [usize; 2] = [1_000, 50_000];
-/// "300 edits a day"
+/// Edits a day.
 const A_DAY: usize = 300;
 
 /// Nanoseconds: a plain edit, an entry, a query for the day before the first edit,

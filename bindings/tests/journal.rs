@@ -209,8 +209,7 @@ fn draw(chance: &mut Chance, of: (u32, u32), theirs: &Memory) -> Edit {
     Edit::Insert { cell, code, marks }
 }
 
-/// "two simulated years of 300 edits a day, with a fold each day once one is
-/// allowed".
+/// Two years, with a fold each day once one is allowed.
 #[test]
 fn two_years_of_300_edits_a_day() {
     const DAYS: u32 = 730;

@@ -24,7 +24,7 @@ mostEntries = 4294967295
 unfoldable pub placesOf : ℕ → ℕ
 placesOf words = min (words / 16 - 1) mostEntries
 
--- the words that a journal uses, of so many: "writes no word behind the last edit that fits"
+-- the words that a journal uses, of so many: none behind the last edit that fits
 unfoldable pub usedOf : ℕ → ℕ
 usedOf words = headWords + entryWords * placesOf words
 

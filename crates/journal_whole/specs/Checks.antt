@@ -1,4 +1,4 @@
--- The whole check of a journal: "a whole check of it, exact like the mesh's".
+-- The whole check of a journal and its starting map, exact like the mesh's.
 use mathlib.Core.Path.{_≡_}
 use mathlib.Core.Bool.{Bool, true, false, cond, _&&_, _||_}
 use mathlib.Core.List.{List, [], _∷_, _++_}

@@ -51,7 +51,7 @@ pub day-words : {m : Map} {past : List Dated} {fold : ℕ} {j start second secon
 day-words {m} {past} {fold} {second′ = second′} {day} f did w wf =
     rw (on-room m past day) at (wf-one second′ w (mapOn m past day) (did .answers m past fold f .1 refl) wf)
 
--- so "folding changes no answer": before and after folds a day has the same words
+-- so folding changes no answer: before and after folds a day has the same words
 pub same-day : {m : Map} {past : List Dated} {fold fold₂ : ℕ} {j start j₂ start₂ a a′ b b′ : List ℕ} {day : ℕ} → Filed m past fold j start
     → Filed m past fold₂ j₂ start₂ → OnDay j start day a Accepted a′ → OnDay j₂ start₂ day b Accepted b′ → take (roomOf m) a′ ≡ take (roomOf m) b′
 same-day {m} {past} {fold₂ = fold₂} {b′ = b′} {day} f g x y = day-words f x b′ (y .answers m past fold₂ g .1 refl)
