@@ -1,13 +1,28 @@
 /*
  * Mengkiloh: the map of survey marks and cells, for programs in C and C++.
  *
- * The library is built by `rt staticlib mesh_c` (target/staticlib/libmesh_c.a). Every function is
- * proved to meet its promise (crates/mesh_c/specs); none allocates, and none keeps anything between
- * calls: all of a mesh stands in the words that the caller lends.
+ * A mark is a numbered point. A cell (a bar, triangle, quad, tetrahedron, pyramid, wedge or brick) is a
+ * numbered list of marks. Marks and cells are counted from 0 and apart from each other. A facet is a part
+ * of a cell's boundary: of a bar an end, of a triangle or quad an edge, of a solid a face. A
+ * half-facet is a facet as one cell has it, and has a number, 8 * cell + facet. Half-facets with the same
+ * set of marks are siblings; each leads to the next by number and the last to the first, which makes a
+ * cycle. One that is alone is a border, and its own sibling. The star of a mark is all cells of one
+ * dimension that hold it; cells of a star that share a facet at the mark are joined, and what is joined is
+ * a group, as a sheet of triangles around the mark. The anchor of a group is the half-facet to start from:
+ * its smallest border at the mark or, where it has none, its smallest half-facet there.
  *
- * Every call but the two whole checks answers a refusal number: 0 if it is accepted, else why it is
- * refused (enum mk_refusal). Values come through pointers, and only where the call is accepted: a
- * refused call leaves everything that was lent as it was. The exceptions are builds and mk_edits.
+ *     uint32_t words[MK_ROOM(6, 4)], around[128], count;
+ *     mk_format(words, MK_ROOM(6, 4), 6, 4);
+ *     mk_insert(words, MK_ROOM(6, 4), 0, MK_TRI_3, (const uint32_t[]){0, 1, 2}, 3);
+ *     mk_star(words, MK_ROOM(6, 4), 2, 1, around, 128, &count);  // count is 1, around[0] is 0
+ *
+ * Every function is proved to meet its promise; none allocates, and none keeps anything between calls: all
+ * of a mesh stands in the words that the caller lends, so that calls on different memory may run at once.
+ *
+ * Every call but mk_version and the two whole checks answers a refusal number: 0 if it is accepted, else
+ * why it is refused (enum mk_refusal; mk_meaning says it in words). Values come through pointers, and only
+ * where the call is accepted: a refused call leaves everything that was lent as it was. The exceptions are
+ * builds and mk_edits.
  *
  * A list is a pointer and a count of 32-bit words, of positions one of 16-bit numbers, of points one
  * of 64-bit floats. A list's pointer and the pointer of a single number are aligned to the size of
@@ -31,6 +46,13 @@
 #ifdef __cplusplus
 extern "C" {
 #endif
+
+/*
+ * The version that this header is of, 4.3.0: major, minor and patch, a byte each; and the version of
+ * the library that is linked.
+ */
+#define MK_VERSION 0x040300u
+uint32_t mk_version(void);
 
 /* Why a call is refused. Checks run in the order that each call lists. */
 enum mk_refusal {
@@ -58,6 +80,58 @@ enum mk_refusal {
     MK_FOLD_NOT_ALLOWED = 22, /* fold: not allowed, or no edit was ever entered */
     MK_JOURNAL_FULL = 23    /* entry: the journal is full */
 };
+
+/* What a refusal number means, in words: "accepted" for 0, and "no such refusal" for a number that is none. */
+static inline const char *mk_meaning(uint8_t refusal)
+{
+    switch (refusal) {
+        case MK_ACCEPTED:
+            return "accepted";
+        case MK_CAPACITY_ABOVE:
+            return "a capacity, or the day of an entry, is above 65,535";
+        case MK_MEMORY_SHORT:
+            return "memory is shorter than the room, or a journal than its head";
+        case MK_CELL_OUTSIDE:
+            return "the cell number is not below the capacity";
+        case MK_CELL_LIVE:
+            return "the cell number is live already";
+        case MK_CELL_NOT_LIVE:
+            return "the cell is not live";
+        case MK_TYPE_UNKNOWN:
+            return "no such type, a dimension that is not 1 to 3, an edition that is not 1 or 2, a "
+                   "listed edit's kind that is not 1 or 2, or a solid without a measure";
+        case MK_COUNT_WRONG:
+            return "wrong count of marks, or a build record or a listed edit cut short";
+        case MK_MARK_OUTSIDE:
+            return "a mark is not below the capacity";
+        case MK_MARK_TWICE:
+            return "a mark occurs twice";
+        case MK_CELL_SAME:
+            return "a live cell of that type has the same marks";
+        case MK_MARK_FULL:
+            return "one of the marks stands in 128 live cells already";
+        case MK_OUTPUT_SHORT:
+            return "the output is shorter than the list";
+        case MK_FACET_OUTSIDE:
+            return "the cell has no such facet";
+        case MK_NOT_MESH:
+            return "the memory is not a mesh, or not a journal of it";
+        case MK_POSITIONS_SHORT:
+            return "the list of positions is shorter than three numbers for each mark";
+        case MK_FACE_FULL:
+            return "under edition 2, a third solid on a face";
+        case MK_DAY_BEFORE:
+            return "the day of an entry is before the last";
+        case MK_DAY_FOLDED:
+            return "the day that is asked for is before the last fold";
+        case MK_FOLD_NOT_ALLOWED:
+            return "the fold is not allowed, or no edit was ever entered";
+        case MK_JOURNAL_FULL:
+            return "the journal is full";
+        default:
+            return "no such refusal";
+    }
+}
 
 /* The editions of the sheet rules. Under the second a face lies between two solids at most. */
 enum mk_edition_number {
@@ -131,6 +205,17 @@ uint8_t mk_build_edition(uint32_t *mesh, size_t words, uint32_t marks, uint32_t 
 uint8_t mk_edition(const uint32_t *mesh, size_t words, uint32_t *edition);
 
 /*
+ * Capacities: those that the mesh was formatted or built for. Refused with 14.
+ */
+uint8_t mk_capacities(const uint32_t *mesh, size_t words, uint32_t *marks, uint32_t *cells);
+
+/*
+ * Free: found is 1 and cell the smallest cell number that is not live, or found is 0 and cell stays as it
+ * was, where every number below the capacity is live. Refused with 14.
+ */
+uint8_t mk_free(const uint32_t *mesh, size_t words, uint32_t *found, uint32_t *cell);
+
+/*
  * Insert: a cell of the caller's number, of a type code, on count marks. Refused with 14, 3, 4, 6, 7,
  * 8, 9, 10, under edition 2 with 19, 11.
  */
@@ -180,7 +265,7 @@ uint8_t mk_sibling(const uint32_t *mesh, size_t words, uint32_t cell, uint32_t f
  * Lists. The list is written to the first places of out, and its length to count; the other places of
  * out stay as they were. Where out has less room than the list is long, the call is refused with 12,
  * after its other checks, and nothing is written. 128 places hold any cycle, star or anchors, 768 any
- * neighbours, and as many as there are cells any list of mk_cells.
+ * neighbours, and as many as the capacity of cells any list of mk_cells or mk_live.
  */
 
 /*
@@ -236,6 +321,11 @@ uint8_t mk_lookup(const uint32_t *mesh, size_t words, const uint32_t *set, size_
  */
 uint8_t mk_cells(const uint32_t *mesh, size_t words, uint32_t type, uint32_t *out, size_t room,
                  uint32_t *count);
+
+/*
+ * Live: all live cells, ascending. Refused with 14, 12.
+ */
+uint8_t mk_live(const uint32_t *mesh, size_t words, uint32_t *out, size_t room, uint32_t *count);
 
 /*
  * Count: how many live cells of a type code there are. Refused with 14, 6. It is read from memory, and on

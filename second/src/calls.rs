@@ -16,6 +16,7 @@ use crate::map::{self, Cell, HalfFacet, LiveCell, Mark, Way};
 use crate::positions::{self, Measure, Metres, NUMBERS_A_MARK};
 use crate::shapes::{type_with_code, Type, DIMENSIONS, HALF_FACETS_A_CELL, LOOKUP_MARKS, SOLID};
 use crate::Refusal;
+use std::collections::BTreeSet;
 use std::ops::RangeInclusive;
 
 /// "Capacities: 0 to 65,535 marks and 0 to 65,535 cells."
@@ -231,6 +232,26 @@ impl Memory {
     /// The edition: 14.
     pub fn edition(&self) -> Result<u32, Refusal> {
         Ok(self.held()?.edition)
+    }
+
+    /// The capacities, of marks and of cells: 14.
+    pub fn capacities(&self) -> Result<(u32, u32), Refusal> {
+        let mesh = self.held()?;
+        Ok((mesh.marks, mesh.cells))
+    }
+
+    /// The smallest cell number below the capacity that is not live, if there is
+    /// one: 14.
+    pub fn free(&self) -> Result<Option<u32>, Refusal> {
+        let mesh = self.held()?;
+        let live: BTreeSet<u32> = mesh.live.iter().map(|cell| cell.number.0).collect();
+        Ok((0..mesh.cells).find(|number| !live.contains(number)))
+    }
+
+    /// All live cells: 14, 12.
+    pub fn live(&self, room: usize) -> Result<Vec<u32>, Refusal> {
+        let cells = map::live_cells(&self.held()?.live);
+        list_fits(cell_numbers(&cells), room)
     }
 
     /// The type code of a cell: 14, 3, 5.

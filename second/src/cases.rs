@@ -331,6 +331,12 @@ impl Answer for usize {
     }
 }
 
+impl Answer for (u32, u32) {
+    fn says(&self) -> String {
+        format!("{} {}", self.0, self.1)
+    }
+}
+
 impl Answer for (u32, Way) {
     fn says(&self) -> String {
         format!("{} way {}", self.0, self.1.number())
@@ -353,7 +359,7 @@ impl Answer for Vec<(u32, Way)> {
 
 impl Answer for Option<u32> {
     fn says(&self) -> String {
-        self.map_or("none".to_string(), |half| half.to_string())
+        self.map_or("none".to_string(), |number| number.to_string())
     }
 }
 
@@ -477,6 +483,7 @@ impl Text {
         self.types(name, memory);
         self.sets(name, memory);
         self.edition(name, memory);
+        self.room(name, memory);
         self.whole(name, memory);
     }
 
@@ -498,6 +505,7 @@ impl Text {
         self.set(name, memory, &[0, 1, 2, 12]);
         self.set(name, memory, &[0, 1, 2, 3, 12]);
         self.edition(name, memory);
+        self.room(name, memory);
         self.whole(name, memory);
     }
 
@@ -512,6 +520,15 @@ impl Text {
     fn edition(&mut self, name: &str, memory: &Memory) {
         let edition = memory.edition().says();
         self.line(format!("{name} edition: {edition}"));
+    }
+
+    fn room(&mut self, name: &str, memory: &Memory) {
+        let capacities = memory.capacities().says();
+        let live = memory.live(PLENTY).says();
+        let free = memory.free().says();
+        self.line(format!(
+            "{name} capacities: {capacities}, live {live}, free {free}"
+        ));
     }
 
     fn whole(&mut self, name: &str, memory: &Memory) {
@@ -650,10 +667,13 @@ impl Text {
         let neighbours = memory.neighbours(7, room).says();
         let cells = memory.cells_of_type(BAR, room).says();
         let anchors = memory.anchors(1, 0, room).says();
+        let live = memory.live(room).says();
+        let free = memory.free().says();
         self.line(format!("bound star {room}: {star}"));
         self.line(format!("bound neighbours {room}: {neighbours}"));
         self.line(format!("bound cells {room}: {cells}"));
         self.line(format!("bound anchors {room}: {anchors}"));
+        self.line(format!("bound live {room}: {live}, free {free}"));
         self.ring(memory, room, room);
     }
 

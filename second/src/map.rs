@@ -267,6 +267,11 @@ pub fn cells_of_type<'a>(live: &'a [LiveCell], row: &Type) -> Vec<&'a LiveCell> 
     ascending(live, |cell| cell.row.code == row.code)
 }
 
+/// "the list of live cells", ascending
+pub fn live_cells(live: &[LiveCell]) -> Vec<&LiveCell> {
+    ascending(live, |_| true)
+}
+
 /// The live cells of which it is true, ascending, each once.
 fn ascending(live: &[LiveCell], is_true: impl Fn(&LiveCell) -> bool) -> Vec<&LiveCell> {
     let mut cells: Vec<&LiveCell> = live.iter().filter(|cell| is_true(cell)).collect();

@@ -14,6 +14,7 @@ const LARGEST_ROOM: usize = 2_621_416;
 fn the_largest_capacities_are_used_to_their_last_number() {
     let mut memory = Memory::lent(LARGEST_ROOM);
     assert_eq!(memory.format(65_535, 65_535), Ok(()));
+    assert_eq!(memory.capacities(), Ok((65_535, 65_535)));
     assert_eq!(memory.insert(65_534, TRI, &[65_534, 0, 1]), Ok(()));
     assert_eq!(memory.insert(0, TRI, &[0, 65_534, 2]), Ok(()));
     assert_eq!(memory.next(0, 0), Ok(8 * 65_534));
@@ -110,7 +111,7 @@ fn one_hundred_and_twenty_eight_triangles_share_an_edge() {
 /// too short.
 #[test]
 fn a_list_fits_exactly_or_is_refused() {
-    let list_calls: [(&str, Memory, ListCall, Vec<u32>); 5] = [
+    let list_calls: [(&str, Memory, ListCall, Vec<u32>); 6] = [
         (
             "cycle",
             p4(),
@@ -136,6 +137,7 @@ fn a_list_fits_exactly_or_is_refused() {
             |it, room| it.cells_of_type(TRI, room),
             vec![0, 1, 2],
         ),
+        ("live", p4(), |it, room| it.live(room), vec![0, 1, 2]),
     ];
     for (call, memory, ask, list) in list_calls {
         assert_eq!(ask(&memory, usize::MAX), Ok(list.clone()), "{call}");
@@ -156,4 +158,5 @@ fn an_empty_list_fits_in_no_room() {
     assert_eq!(memory.anchors(1, 5, 0), Ok(vec![]));
     assert_eq!(memory.neighbours(0, 0), Ok(vec![]));
     assert_eq!(memory.cells_of_type(TETRA, 0), Ok(vec![]));
+    assert_eq!(formatted(6, 4).live(0), Ok(vec![]));
 }

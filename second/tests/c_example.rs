@@ -65,6 +65,7 @@ fn text() -> String {
     let nothing = Memory::lent(words);
     lines.whole(&nothing);
     lines.edition(&nothing);
+    lines.held(&nothing, PLACES);
     lines.star(&nothing, 2, 0, PLACES);
     lines.verdict("format", Memory::lent(words - 1).format(MARKS, CELLS));
     lines.verdict("format", Memory::lent(words).format(65_536, CELLS));
@@ -75,6 +76,7 @@ fn text() -> String {
     lines.whole(&memory);
     lines.build(&mut memory, &RECORDS);
     lines.all(&memory);
+    lines.held(&memory, 4);
     lines.verdict("remove 4", memory.remove(4));
     lines.verdict("remove 4", memory.remove(4));
     lines.all(&memory);
@@ -120,6 +122,16 @@ impl Lines {
         let count = answer.as_ref().ok().map(|list| list.len() as u32);
         let list = answer.iter().flatten().map(|&n| word(Some(n))).collect();
         self.say(what, number(&answer), &[word(count), list]);
+    }
+
+    fn held(&mut self, memory: &Memory, room: usize) {
+        let capacities = memory.capacities();
+        let marks = capacities.ok().map(|both| both.0);
+        let cells = capacities.ok().map(|both| both.1);
+        let both = [word(marks), word(cells)];
+        self.say("capacities", number(&capacities), &both);
+        self.found("free", memory.free());
+        self.list("live", memory.live(room));
     }
 
     fn whole(&mut self, memory: &Memory) {
@@ -303,6 +315,7 @@ impl Lines {
         for code in 0..9 {
             self.cells_of(memory, code);
         }
+        self.held(memory, PLACES);
         self.whole(memory);
     }
 }

@@ -115,6 +115,27 @@ fn edition_14() {
     pairs.end(&[]);
 }
 
+#[test]
+fn capacities_and_free_14() {
+    let mut pairs = Pairs::in_order(&[14]);
+    for (memory, of_memory) in memories() {
+        pairs.see(&[of_memory], memory.capacities().err());
+        pairs.see(&[of_memory], memory.free().err());
+    }
+    pairs.end(&[]);
+}
+
+#[test]
+fn live_14_12() {
+    let mut pairs = Pairs::in_order(&[14, 12]);
+    for (memory, of_memory) in memories() {
+        for (room, of_room) in rooms() {
+            pairs.see(&[of_memory, of_room], memory.live(room).err());
+        }
+    }
+    pairs.end(&[]);
+}
+
 /// Type and marks of an insert into the map with a full mark, mark 10.
 fn types_and_marks() -> Vec<Choice<(u32, &'static [u32])>> {
     vec![

@@ -54,6 +54,37 @@ fn types_have_their_lists_and_counts() {
     }
 }
 
+/// Cells of every type in one list, whatever the order they came in; the gaps
+/// between them are free, the smallest first.
+#[test]
+fn the_live_cells_and_the_first_free_number() {
+    let mut memory = mixed();
+    assert_eq!(memory.capacities(), Ok((9, 9)));
+    assert_eq!(memory.live(PLENTY), Ok(vec![1, 3, 5, 7, 8]));
+    for number in [0, 2, 4, 6] {
+        assert_eq!(memory.free(), Ok(Some(number)));
+        memory.insert(number, BAR, &[number, number + 1]).unwrap();
+    }
+    assert_eq!(memory.free(), Ok(None));
+    assert_eq!(memory.live(PLENTY), Ok((0..9).collect()));
+    memory.remove(8).unwrap();
+    assert_eq!(memory.free(), Ok(Some(8)));
+    memory.remove(5).unwrap();
+    assert_eq!(memory.free(), Ok(Some(5)));
+    assert_eq!(memory.live(PLENTY), Ok(vec![0, 1, 2, 3, 4, 6, 7]));
+}
+
+/// Without room for a cell no number is free.
+#[test]
+fn a_mesh_without_cells_has_no_free_number() {
+    let none = formatted(6, 0);
+    assert_eq!(none.capacities(), Ok((6, 0)));
+    assert_eq!(none.free(), Ok(None));
+    assert_eq!(none.live(0), Ok(vec![]));
+    assert_eq!(formatted(0, 1).free(), Ok(Some(0)));
+    assert_eq!(formatted(0, 1).capacities(), Ok((0, 1)));
+}
+
 /// In the order given at insertion, which no other order stands for.
 #[test]
 fn marks_come_back_as_given() {

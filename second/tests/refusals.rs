@@ -288,6 +288,8 @@ fn refusal_12_the_list_does_not_fit() {
     assert_eq!(number(memory.star(2, 0, 2)), 12);
     assert_eq!(number(memory.neighbours(0, 1)), 12);
     assert_eq!(number(memory.cells_of_type(TRI, 2)), 12);
+    assert_eq!(number(memory.live(2)), 12);
+    assert_eq!(number(memory.live(3)), 0);
     assert_eq!(number(p5().anchors(2, 0, 1)), 12);
 }
 
@@ -335,6 +337,9 @@ fn refusal_14_memory_is_not_a_mesh() {
         assert_eq!(number(memory.cells_of_type(TRI, PLENTY)), 14);
         assert_eq!(number(memory.count_of_type(TRI)), 14);
         assert_eq!(number(memory.edition()), 14);
+        assert_eq!(number(memory.capacities()), 14);
+        assert_eq!(number(memory.free()), 14);
+        assert_eq!(number(memory.live(PLENTY)), 14);
         assert_eq!(number(memory.insert(3, TRI, &[0, 1, 2])), 14);
         assert_eq!(number(memory.remove(0)), 14);
         assert_eq!(memory.marks_of(0), []);

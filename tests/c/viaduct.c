@@ -179,6 +179,29 @@ static void cells_of(uint32_t type)
     printf("\n");
 }
 
+/* the capacities, the first free number and the live cells */
+static void held(size_t room)
+{
+    uint32_t marks = UNWRITTEN;
+    uint32_t cells = UNWRITTEN;
+    uint32_t found = UNWRITTEN;
+    uint32_t cell = UNWRITTEN;
+    uint32_t count = UNWRITTEN;
+    uint8_t refusal = mk_capacities(mesh, WORDS, &marks, &cells);
+    printf("capacities: %u;", refusal);
+    say_number(marks);
+    printf(";");
+    say_number(cells);
+    refusal = mk_free(mesh, WORDS, &found, &cell);
+    printf("\nfree: %u;", refusal);
+    say_number(found);
+    printf(";");
+    say_number(cell);
+    refusal = mk_live(mesh, WORDS, list, room, &count);
+    printf("\nlive");
+    say_list(refusal, list, count);
+}
+
 static void whole(void)
 {
     printf("whole: %u\n", mk_whole(mesh, WORDS));
@@ -213,6 +236,7 @@ static void all(void)
     for (uint32_t type = 0; type < 9; type++) {
         cells_of(type);
     }
+    held(PLACES);
     whole();
 }
 
@@ -351,6 +375,7 @@ int main(void)
 
     whole();
     edition();
+    held(PLACES);
     star(2, 0, PLACES);
     say_verdict("format", mk_format(mesh, WORDS - 1, MARKS, CELLS));
     say_verdict("format", mk_format(mesh, WORDS, 65536, CELLS));
@@ -360,6 +385,7 @@ int main(void)
     whole();
     build(records, sizeof records / sizeof records[0]);
     all();
+    held(4);
     say_verdict("remove 4", mk_remove(mesh, WORDS, 4));
     say_verdict("remove 4", mk_remove(mesh, WORDS, 4));
     all();
@@ -373,5 +399,6 @@ int main(void)
     second_edition();
     all_placed();
     mornings();
-    return 0;
+    /* the header is that of the library */
+    return mk_version() == MK_VERSION ? 0 : 1;
 }

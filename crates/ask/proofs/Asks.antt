@@ -4,7 +4,7 @@ use mathlib.Core.List.{List}
 use Prim.Native.Nat.{ℕ}
 use Rattle.lists.proofs.Bools.{clash}
 use Rattle.numbers.specs.declared.Caps.{Caps}
-use Rattle.store.specs.declared.Opened.the-variants.{Mesh}
+use Rattle.store.specs.declared.Opened.the-variants.{Mesh, Nothing}
 use Rattle.store.specs.Open.{opened}
 use Rattle.map.specs.Cells.{Map}
 use Rattle.map.specs.Answers.{Check, Answer, answer}
@@ -19,7 +19,7 @@ use Rattle.checks.proofs.Values.{Numbered, refused-values, given-values}
 use Rattle.checks.specs.declared.Opening.{Opening}
 use Rattle.checks.specs.declared.Opening.the-variants as Opening′
 use Rattle.checks.specs.Opening.{Opens}
-use Rattle.checks.proofs.Opens.{mesh-opened, wf-caps}
+use Rattle.checks.proofs.Opens.{nothing-opened, mesh-opened, wf-mesh, wf-caps}
 use Rattle.ask.specs.Asked.{Asked}
 
 module _ {A : Type 0} (says : A → Answer) (w : List ℕ) (checks : Map → List Check) (values : Map → List ℕ) where
@@ -41,4 +41,16 @@ module _ {A : Type 0} (says : A → Answer) (w : List ℕ) (checks : Map → Lis
     answers = λ m wf.
         let e = wf-caps w m wf caps opens in
         q m e wf ∙ given-values (checks m) (values m) (n m) (ap verdictSays (sym v) ∙ k .says m e wf);
+  }
+
+-- a query of the mesh as a whole: no mesh, or what is asked of it
+module _ {A : Type 0} (says : A → Answer) (noMesh : A) (w : List ℕ) (answer : Map → Answer) where
+  pub mesh-none : Nothing ≡ opened w → Asked says noMesh w answer noMesh
+  mesh-none e = record { refused = λ none. refl; answers = λ m wf. absurd (clash (wf-mesh w m wf) (nothing-opened w e)) }
+
+  pub mesh-given : (caps : Caps) → Mesh caps ≡ opened w → (r : A) → ((m : Map) → m .caps ≡ caps → Wf w m → says r ≡ answer m)
+      → Asked says noMesh w answer r
+  mesh-given caps opens r q = record {
+    refused = λ none. absurd (clash (mesh-opened w caps opens .0) none);
+    answers = λ m wf. q m (wf-caps w m wf caps opens) wf;
   }

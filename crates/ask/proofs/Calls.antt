@@ -5,11 +5,11 @@ use mathlib.Core.List.{List, [], _∷_}
 use Prim.Native.Nat.{ℕ, suc, _-_, _/_, _%_, _<_}
 use native.Mathlib.Omega.{arith}
 use lib.ListN.{length, take}
-use Rattle.lists.proofs.Bools.{clash, not-true-false}
+use Rattle.lists.proofs.Bools.{not-true-false}
 use Rattle.numbers.specs.declared.Half.{Half}
 use Rattle.numbers.specs.Half.{cut, halfOf}
 use Rattle.numbers.specs.declared.Caps.{Caps}
-use Rattle.store.specs.declared.Opened.the-variants.{Mesh, Nothing}
+use Rattle.store.specs.declared.Opened.the-variants.{Mesh}
 use Rattle.store.specs.Fields.{Count, Anchor}
 use Rattle.store.specs.Slots.{InHead, InMark, read, codeIn, siblingIn, wayIn}
 use Rattle.store.specs.Open.{opened}
@@ -19,10 +19,12 @@ use Rattle.map.specs.declared.Way.{Way}
 use Rattle.map.specs.Ways.{wayNumber, way}
 use Rattle.map.specs.Stars.{anchors}
 use Rattle.map.specs.Answers.{answer, cellChecks, halfChecks, starChecks, typeChecks, typeAnswer, siblingAnswer, borderAnswer, firstAnchorAnswer, countAnswer, editionAnswer, stepAnswer}
-use Rattle.map.specs.Says.{given, refused, valueSays, halfSays, truthSays, foundSays}
+use Rattle.map.specs.Free.{capacitiesAnswer}
+use Rattle.map.specs.Says.{given, refused, valueSays, pairSays, halfSays, truthSays, foundSays}
 use Rattle.map.specs.declared.Refusal.{Refusal}
 use Rattle.map.specs.declared.Refusal.the-variants.{NotMesh}
 use Rattle.map.specs.declared.Value.the-variants as Value
+use Rattle.map.specs.declared.Pair.the-variants as Pair
 use Rattle.map.specs.declared.HalfAt.{HalfAt}
 use Rattle.map.specs.declared.HalfAt.the-variants as HalfAt′
 use Rattle.map.specs.declared.Truth.the-variants as Truth
@@ -37,13 +39,12 @@ use Rattle.checks.specs.Opening.{Opens}
 use Rattle.checks.specs.declared.Opening.{Opening}
 use Rattle.checks.specs.declared.Opening.the-variants as Opening′
 use Rattle.checks.proofs.Rows.{cells-of, code-of}
-use Rattle.checks.proofs.Opens.{nothing-opened, mesh-opened, wf-mesh, wf-caps}
 use Rattle.checks.proofs.Passed.{cell-numbered, half-numbered, star-numbered, type-numbered, cell-passed, half-passed, star-passed, type-passed}
 use Rattle.ask.specs.declared.Step.the-variants as Step
 use Rattle.ask.specs.Asked.{Asked}
 use Rattle.ask.specs.Steps.{stepSays}
-use Rattle.ask.specs.Refusals.{noValue, noHalf, noTruth, noFound, noStep}
-use Rattle.ask.proofs.Asks.{asked-refused, asked-given}
+use Rattle.ask.specs.Refusals.{noValue, noPair, noHalf, noTruth, noFound, noStep}
+use Rattle.ask.proofs.Asks.{asked-refused, asked-given, mesh-given}
 use Rattle.ask.proofs.Words.{half-is, uncut-is, sibling-is, way-is, anchor-is, count-is}
 
 -- a first as number + 1
@@ -87,17 +88,18 @@ module _ (w : List ℕ) (t : ℕ) where
   unfolding countAnswer valueSays
   count-refused = asked-refused valueSays w (λ m. typeChecks t) (λ m. length (cellsOf m t) ∷ []) Value.Refused (λ why. refl)
 
--- the edition: no mesh, or what the head gives
+-- the edition and the capacities: what the head gives
 module _ (w : List ℕ) where
-  pub edition-none : Nothing ≡ opened w → Asked valueSays noValue w editionAnswer noValue
-  edition-none e = record { refused = λ none. refl; answers = λ m wf. absurd (clash (wf-mesh w m wf) (nothing-opened w e)) }
-
   pub edition-given : (caps : Caps) → Mesh caps ≡ opened w → Asked valueSays noValue w editionAnswer (Value.Is (caps .edition))
   unfolding editionAnswer answer valueSays given
-  edition-given caps opens = record {
-    refused = λ none. absurd (clash (mesh-opened w caps opens .0) none);
-    answers = λ m wf. ap (λ (c : Caps). given (c .edition ∷ [])) (sym (wf-caps w m wf caps opens));
-  }
+  edition-given caps opens =
+      mesh-given valueSays noValue w editionAnswer caps opens (Value.Is (caps .edition)) (λ m e wf. ap (λ (c : Caps). given (c .edition ∷ [])) (sym e))
+
+  pub capacities-given : (caps : Caps) → Mesh caps ≡ opened w → Asked pairSays noPair w capacitiesAnswer (Pair.Are (caps .marks) (caps .cells))
+  unfolding capacitiesAnswer answer pairSays given
+  capacities-given caps opens =
+      mesh-given pairSays noPair w capacitiesAnswer caps opens (Pair.Are (caps .marks) (caps .cells))
+      (λ m e wf. ap (λ (c : Caps). given (c .marks ∷ c .cells ∷ [])) (sym e))
 
 module _ (w : List ℕ) (caps : Caps) (opens : Mesh caps ≡ opened w) (verdict : Verdict) where
   module _ (c : ℕ) (checked : Checked w caps (λ m. cellChecks m c) verdict) where

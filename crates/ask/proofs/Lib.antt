@@ -4,3 +4,4 @@ pub mod Words
 pub mod Calls
 pub mod Marks
 pub mod Steps
+pub mod Frees

@@ -1,21 +1,25 @@
-// The queries that read a word: type and marks of a cell, sibling, border, first anchor, count of a type, edition, a walker's step.
+// The queries that read a word: type and marks of a cell, sibling, border, first anchor, count of a type, edition, capacities, a walker's step;
+// and the free cell.
 //
 // What is here: the public calls, none with a `requires`, and the walker. What is proved: memory that is no mesh is refused with 14; on
 // well-formed memory the answer, with its refusals in the listed order, is that of crates/map/specs/Answers.antt (specs/Asked.antt). What a
-// caller should know: each costs a few words read, whatever the size of the mesh.
+// caller should know: each costs a few words read, whatever the size of the mesh, save for the free cell, which looks at every cell below it.
 ghost use Rattle.map.specs.Answers.{typeAnswer, siblingAnswer, borderAnswer, firstAnchorAnswer, countAnswer, editionAnswer, stepAnswer};
-ghost use Rattle.map.specs.Says.{valueSays, halfSays, truthSays, foundSays};
+ghost use Rattle.map.specs.Free.{capacitiesAnswer, freeAnswer};
+ghost use Rattle.map.specs.Says.{valueSays, pairSays, cellSays, halfSays, truthSays, foundSays};
 ghost use Rattle.ask.specs.Asked.{Asked, HandedMarks};
 ghost use Rattle.ask.specs.Steps.{stepSays};
-ghost use Rattle.ask.specs.Refusals.{noValue, noHalf, noTruth, noFound, noStep};
+ghost use Rattle.ask.specs.Refusals.{noValue, noPair, noCell, noHalf, noTruth, noFound, noStep};
 use checks::Opening;
 use checks::about_cell;
 use checks::about_half;
 use checks::about_star;
 use checks::about_type;
 use facet::marks_at;
+use map::CellAt;
 use map::Found;
 use map::HalfAt;
+use map::Pair;
 use map::Refusal;
 use map::Truth;
 use map::Value;
@@ -118,6 +122,34 @@ pub fn edition(w: &[u32]) -> Value
         Opened::Nothing => Value::Refused(Refusal::NotMesh),
         Opened::Mesh(caps) => Value::Is(caps.edition),
     }
+}
+
+// The capacities that the mesh was formatted for: marks, and cells.
+pub fn capacities(w: &[u32]) -> Pair
+    ensures { λ r. ⌜ Asked pairSays noPair (now (w .entry)) capacitiesAnswer r ⌝ }
+{
+    match open(w) {
+        Opened::Nothing => Pair::Refused(Refusal::NotMesh),
+        Opened::Mesh(caps) => Pair::Are(caps.marks, caps.cells),
+    }
+}
+
+// The smallest cell number that is not live, or none.
+pub fn free(w: &[u32]) -> CellAt
+    ensures { λ r. ⌜ Asked cellSays noCell (now (w .entry)) freeAnswer r ⌝ }
+{
+    let caps = match open(w) {
+        Opened::Nothing => return CellAt::Refused(Refusal::NotMesh),
+        Opened::Mesh(caps) => caps,
+    };
+    let mut c: u32 = 0;
+    while c < caps.cells {
+        if code_of(w, caps, Cell(c)) == 0 {
+            return CellAt::At(Cell(c));
+        }
+        c += 1;
+    }
+    CellAt::Nothing
 }
 
 // A walker over one sibling cycle: its place.

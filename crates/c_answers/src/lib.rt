@@ -5,14 +5,16 @@
 // know: a refused build has a value, the place of its record, and a list of edits has one always, the number made; every other answer has one
 // only where it is accepted.
 ghost use mathlib.Core.Path.{_≡_};
-ghost use Rattle.map.specs.Says.{numberOf, verdictSays, valueSays, halfSays, truthSays, builtSays, foundSays, editsSays};
+ghost use Rattle.map.specs.Says.{numberOf, verdictSays, valueSays, pairSays, cellSays, halfSays, truthSays, builtSays, foundSays, editsSays};
 ghost use Rattle.positions.specs.Replies.{measureSays, centreSays};
 ghost use Rattle.c_answers.specs.Told.{Told, ToldTwo, ToldFound};
 ghost use Rattle.c_answers.specs.Floats.{ToldMeasure, ToldPoint};
 use map::Built;
+use map::CellAt;
 use map::Edits;
 use map::Found;
 use map::HalfAt;
+use map::Pair;
 use map::Refusal;
 use map::Truth;
 use map::Value;
@@ -47,6 +49,38 @@ pub fn tell_value(v: Value, x: &mut u32) -> u8
         Value::Refused(why) => byte_of(why),
         Value::Is(n) => {
             *x = n;
+            0
+        }
+    }
+}
+
+// Two numbers.
+pub fn tell_pair(p: Pair, x: &mut u32, y: &mut u32) -> u8
+    ensures { λ r. ⌜ ToldTwo (pairSays p) (now (x .entry)) (now (y .entry)) r (now (x .exit)) (now (y .exit)) ⌝ }
+{
+    match p {
+        Pair::Refused(why) => byte_of(why),
+        Pair::Are(first, second) => {
+            *x = first;
+            *y = second;
+            0
+        }
+    }
+}
+
+// A cell or none: whether there is one, 1 or 0, beside it.
+pub fn tell_cell(c: CellAt, some: &mut u32, x: &mut u32) -> u8
+    ensures { λ r. ⌜ ToldFound (cellSays c) (now (some .entry)) (now (x .entry)) r (now (some .exit)) (now (x .exit)) ⌝ }
+{
+    match c {
+        CellAt::Refused(why) => byte_of(why),
+        CellAt::Nothing => {
+            *some = 0;
+            0
+        }
+        CellAt::At(cell) => {
+            *some = 1;
+            *x = cell.0;
             0
         }
     }

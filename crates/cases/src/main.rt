@@ -5,9 +5,11 @@
 use ask::Step;
 use ask::Walker;
 use ask::border;
+use ask::capacities;
 use ask::count_of_type;
 use ask::edition;
 use ask::first_anchor;
+use ask::free;
 use ask::marks_of;
 use ask::sibling;
 use ask::type_of;
@@ -21,13 +23,16 @@ use libc::STDOUT_FILENO;
 use listing::anchors;
 use listing::cells_of_type;
 use listing::cycle;
+use listing::live;
 use listing::lookup;
 use listing::neighbours;
 use listing::star;
 use map::Built;
+use map::CellAt;
 use map::Edits;
 use map::Found;
 use map::HalfAt;
+use map::Pair;
 use map::Refusal;
 use map::Truth;
 use map::Value;
@@ -288,6 +293,24 @@ fn say_value(v: Value) {
     }
 }
 
+fn say_pair(p: Pair) {
+    match p {
+        Pair::Are(first, second) => {
+            say_number(first);
+            say_number(second);
+        }
+        Pair::Refused(why) => say_refusal(why),
+    }
+}
+
+fn say_cell(c: CellAt) {
+    match c {
+        CellAt::At(cell) => say_number(cell.0),
+        CellAt::Nothing => say(b" none"),
+        CellAt::Refused(why) => say_refusal(why),
+    }
+}
+
 fn say_list(v: Value, list: &[u32]) {
     match v {
         Value::Is(n) => say_numbers(list, n as usize),
@@ -497,6 +520,20 @@ fn about_edition(w: &[u32], p: u32) {
     say(b"\n");
 }
 
+// The capacities, the live cells and the first number that is free.
+fn about_room(w: &[u32], p: u32) {
+    say_case(p);
+    say(b" capacities:");
+    say_pair(capacities(w));
+    say(b", live");
+    let mut out = [0u32; 128];
+    let n = live(w, &mut out);
+    say_list(n, &out);
+    say(b", free");
+    say_cell(free(w));
+    say(b"\n");
+}
+
 fn about_whole(w: &[u32], p: u32) {
     say_case(p);
     if whole(w) {
@@ -516,6 +553,7 @@ fn everything(w: &[u32], p: u32) {
     about_set(w, p, &[1, 0, 1]);
     about_set(w, p, &[0, 1, 2, 3, 4]);
     about_edition(w, p);
+    about_room(w, p);
     about_whole(w, p);
 }
 
@@ -543,6 +581,7 @@ fn of_solids(w: &[u32], p: u32) {
     about_types(w, p);
     about_faces(w, p);
     about_edition(w, p);
+    about_room(w, p);
     about_whole(w, p);
 }
 
@@ -852,9 +891,21 @@ fn lists_too(w: &[u32], out: &mut [u32]) {
     say(b"\n");
 }
 
+fn list_live(w: &[u32], out: &mut [u32]) {
+    say(b"bound live");
+    say_size(out.len());
+    say(b":");
+    let cells = live(w, out);
+    say_list(cells, out);
+    say(b", free");
+    say_cell(free(w));
+    say(b"\n");
+}
+
 fn lists_all(w: &[u32], out: &mut [u32]) {
     lists_in(w, out);
     lists_too(w, out);
+    list_live(w, out);
 }
 
 fn lists_cut(w: &[u32], out: &mut [u32], cut: usize) {

@@ -5,6 +5,7 @@ pub mod Looked
 pub mod Facets
 pub mod Turned
 pub mod Ways
+pub mod Selected
 pub mod Typed
 pub mod Least
 pub mod Near

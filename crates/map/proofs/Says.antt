@@ -3,6 +3,7 @@ use mathlib.Core.Path.{_≡_, refl, sym, ap, _∙_}
 use mathlib.Core.List.{List, [], _∷_}
 use Prim.Native.Nat.{ℕ, zero, suc}
 use lib.ListN.{getD}
+use Rattle.numbers.specs.declared.Cell.{Cell}
 use Rattle.numbers.specs.declared.Half.{Half}
 use Rattle.map.specs.declared.Refusal.{Refusal}
 use Rattle.map.specs.declared.Refusal.the-variants.{BadFrame}
@@ -10,6 +11,10 @@ use Rattle.map.specs.declared.Verdict.{Verdict}
 use Rattle.map.specs.declared.Verdict.the-variants as Verdict′
 use Rattle.map.specs.declared.Value.{Value}
 use Rattle.map.specs.declared.Value.the-variants as Value′
+use Rattle.map.specs.declared.Pair.{Pair}
+use Rattle.map.specs.declared.Pair.the-variants as Pair′
+use Rattle.map.specs.declared.CellAt.{CellAt}
+use Rattle.map.specs.declared.CellAt.the-variants as CellAt′
 use Rattle.map.specs.declared.HalfAt.{HalfAt}
 use Rattle.map.specs.declared.HalfAt.the-variants as HalfAt′
 use Rattle.map.specs.declared.Found.{Found}
@@ -24,7 +29,7 @@ use Rattle.map.specs.Answers.{Answer}
 use Rattle.map.specs.Ways.{wayAt}
 use Rattle.map.proofs.Refusals.{refusals, number-back}
 use Rattle.map.proofs.Ways.{way-back}
-use Rattle.map.specs.Says.{numberOf, given, refused, verdictSays, valueSays, halfSays, foundSays, truthSays, builtSays, editsSays}
+use Rattle.map.specs.Says.{numberOf, given, refused, verdictSays, valueSays, pairSays, cellSays, halfSays, foundSays, truthSays, builtSays, editsSays}
 
 -- what an answer was, read back: accepted with its values, or refused
 module _ {A : Type 0} (accepted : List ℕ → A) (refusing : Refusal → List ℕ → A) where
@@ -68,6 +73,39 @@ value-one = one valueSays (back wasValue notValue) again
     again : (x : Value) → back wasValue notValue (valueSays x) ≡ x
     again (Value′.Is n) = refl
     again (Value′.Refused r) = back-refused wasValue notValue r []
+
+wasPair : List ℕ → Pair
+wasPair values = Pair′.Are (getD values 0 0) (getD values 1 0)
+
+notPair : Refusal → List ℕ → Pair
+notPair r values = Pair′.Refused r
+
+pub pair-one : (x y : Pair) → pairSays x ≡ pairSays y → x ≡ y
+unfolding pairSays given refused back wasPair notPair
+pair-one = one pairSays (back wasPair notPair) again
+  where
+    again : (x : Pair) → back wasPair notPair (pairSays x) ≡ x
+    again (Pair′.Are n k) = refl
+    again (Pair′.Refused r) = back-refused wasPair notPair r []
+
+abbrev cellNumber : ℕ → Cell
+cellNumber n = record { 0 = n }
+
+wasCellAt : List ℕ → CellAt
+wasCellAt [] = CellAt′.Nothing
+wasCellAt (c ∷ rest) = CellAt′.At (cellNumber c)
+
+notCellAt : Refusal → List ℕ → CellAt
+notCellAt r values = CellAt′.Refused r
+
+pub cell-one : (x y : CellAt) → cellSays x ≡ cellSays y → x ≡ y
+unfolding cellSays given refused back wasCellAt notCellAt
+cell-one = one cellSays (back wasCellAt notCellAt) again
+  where
+    again : (x : CellAt) → back wasCellAt notCellAt (cellSays x) ≡ x
+    again (CellAt′.At c) = refl
+    again CellAt′.Nothing = refl
+    again (CellAt′.Refused r) = back-refused wasCellAt notCellAt r []
 
 abbrev halfNumber : ℕ → Half
 halfNumber n = record { 0 = n }

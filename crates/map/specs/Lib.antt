@@ -4,6 +4,7 @@ pub mod Ways
 pub mod Groups
 pub mod Stars
 pub mod Answers
+pub mod Free
 pub mod Says
 pub mod History
 pub mod Morning

@@ -7,6 +7,10 @@ use Rattle.map.specs.declared.Verdict.{Verdict}
 use Rattle.map.specs.declared.Verdict.the-variants as Verdict′
 use Rattle.map.specs.declared.Value.{Value}
 use Rattle.map.specs.declared.Value.the-variants as Value′
+use Rattle.map.specs.declared.Pair.{Pair}
+use Rattle.map.specs.declared.Pair.the-variants as Pair′
+use Rattle.map.specs.declared.CellAt.{CellAt}
+use Rattle.map.specs.declared.CellAt.the-variants as CellAt′
 use Rattle.map.specs.declared.HalfAt.{HalfAt}
 use Rattle.map.specs.declared.HalfAt.the-variants as HalfAt′
 use Rattle.map.specs.declared.Found.{Found}
@@ -56,6 +60,15 @@ verdictSays (Verdict′.Refused r) = refused r
 unfoldable pub valueSays : Value → Answer
 valueSays (Value′.Is n) = given (n ∷ [])
 valueSays (Value′.Refused r) = refused r
+
+unfoldable pub pairSays : Pair → Answer
+pairSays (Pair′.Are n k) = given (n ∷ k ∷ [])
+pairSays (Pair′.Refused r) = refused r
+
+unfoldable pub cellSays : CellAt → Answer
+cellSays (CellAt′.At c) = given (c .0 ∷ [])
+cellSays CellAt′.Nothing = given []
+cellSays (CellAt′.Refused r) = refused r
 
 unfoldable pub halfSays : HalfAt → Answer
 halfSays (HalfAt′.At h way) = given (h .0 ∷ wayNumber way ∷ [])

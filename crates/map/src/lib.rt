@@ -1,13 +1,14 @@
 // The map: what the outline's words mean, and what each call answers.
 //
 // What is here: in specs/ the definitions, over the live cells alone (Cells, Siblings, Groups, Stars), the
-// answers with their refusals in the listed order (Answers), the history (History), a morning's edits (Morning) and the twelve cases (Cases); in
+// answers with their refusals in the listed order (Answers, Free), the history (History), a morning's edits (Morning) and the twelve cases (Cases); in
 // src/ the refusals, the ways of a sibling and the answers as enums, each case with the outline's number in specs/Says.antt
 // and specs/Ways.antt. What is proved: `number_of` and `way_number` give that number; the twelve cases hold
 // (proofs/Cases.antt); an answer of the outline is that of one enum value alone (proofs/Says.antt). What a caller should know: the laws of these definitions are in crate `laws`.
 ghost use mathlib.Core.Path.{_≡_};
 ghost use Rattle.map.specs.Says.{numberOf};
 ghost use Rattle.map.specs.Ways.{wayNumber};
+use numbers::Cell;
 use numbers::Half;
 
 // Why a call is refused: a row of the outline's table each, in its order.
@@ -93,6 +94,19 @@ pub enum Verdict {
 // One number: a type, a count, the length of a list.
 pub enum Value {
     Is(u32),
+    Refused(Refusal),
+}
+
+// Two numbers: the capacities.
+pub enum Pair {
+    Are(u32, u32),
+    Refused(Refusal),
+}
+
+// A cell or none: the free cell.
+pub enum CellAt {
+    At(Cell),
+    Nothing,
     Refused(Refusal),
 }
 

@@ -2,12 +2,14 @@
 use mathlib.Core.Path.{_≡_, refl}
 use mathlib.Core.List.{[]}
 use Rattle.map.specs.Answers.{Answer}
-use Rattle.map.specs.Says.{given, refused, valueSays, halfSays, truthSays, foundSays}
+use Rattle.map.specs.Says.{given, refused, valueSays, pairSays, cellSays, halfSays, truthSays, foundSays}
 use Rattle.map.specs.declared.Value.the-variants as Value
+use Rattle.map.specs.declared.Pair.the-variants as Pair
+use Rattle.map.specs.declared.CellAt.the-variants as CellAt
 use Rattle.map.specs.declared.HalfAt.the-variants as HalfAt
 use Rattle.map.specs.declared.Truth.the-variants as Truth
 use Rattle.map.specs.declared.Found.the-variants as Found
-use Rattle.ask.specs.Refusals.{noValue, noHalf, noTruth, noFound}
+use Rattle.ask.specs.Refusals.{noValue, noPair, noCell, noHalf, noTruth, noFound}
 
 abbrev pub Quiet : {A : Type 0} → (A → Answer) → Type 0
 Quiet {A} says = (a : A) → (says a .refusal ≡ 0 → ⊥) → says a .values ≡ []
@@ -20,6 +22,17 @@ value-quiet : Quiet valueSays
 unfolding valueSays given refused
 value-quiet (Value.Is n) some = absurd (some refl)
 value-quiet (Value.Refused why) some = refl
+
+pair-quiet : Quiet pairSays
+unfolding pairSays given refused
+pair-quiet (Pair.Are n k) some = absurd (some refl)
+pair-quiet (Pair.Refused why) some = refl
+
+cell-quiet : Quiet cellSays
+unfolding cellSays given refused
+cell-quiet (CellAt.At c) some = absurd (some refl)
+cell-quiet CellAt.Nothing some = absurd (some refl)
+cell-quiet (CellAt.Refused why) some = refl
 
 half-quiet : Quiet halfSays
 unfolding halfSays given refused
@@ -41,6 +54,14 @@ found-quiet (Found.Refused why) some = refl
 pub value-plain : Plain valueSays noValue
 unfolding valueSays refused
 value-plain = record { fourteen = refl; quiet = value-quiet }
+
+pub pair-plain : Plain pairSays noPair
+unfolding pairSays refused
+pair-plain = record { fourteen = refl; quiet = pair-quiet }
+
+pub cell-plain : Plain cellSays noCell
+unfolding cellSays refused
+cell-plain = record { fourteen = refl; quiet = cell-quiet }
 
 pub half-plain : Plain halfSays noHalf
 unfolding halfSays refused

@@ -10,19 +10,17 @@ use Rattle.lists.specs.Lists.{first}
 use Rattle.words.specs.Words.{Only}
 use Rattle.map.specs.Cells.{Map}
 use Rattle.map.specs.Answers.{Check, Answer, listAnswer}
-use Rattle.map.specs.Says.{given, refused, valueSays, halfSays, foundSays}
+use Rattle.map.specs.Says.{given, refused, valueSays}
 use Rattle.map.specs.declared.Value.{Value}
 use Rattle.map.specs.declared.Value.the-variants as Value′
-use Rattle.map.specs.declared.HalfAt.{HalfAt}
-use Rattle.map.specs.declared.Found.{Found}
 use Rattle.map.proofs.Refusals.{number-some}
 use Rattle.ask.specs.Asked.{Asked}
-use Rattle.ask.specs.Refusals.{noValue, noHalf, noFound}
+use Rattle.ask.specs.Refusals.{noValue}
 use Rattle.listing.specs.Listing.{ListingIn, Listing, Paired}
 use Rattle.whole.specs.Whole.{Whole}
 use Rattle.c_answers.specs.Told.{Told, ToldTwo, ToldFound}
 use Rattle.mesh_c.specs.Answered.{Answered, Faced, Sought, ListedIn, Listed, ListedTwo, Judged}
-use Rattle.mesh_c.proofs.Plain.{Plain, value-plain, half-plain, found-plain}
+use Rattle.mesh_c.proofs.Plain.{Plain, value-plain}
 
 -- one number, whatever the kind of answer
 pub answered : {A : Type 0} {says : A → Answer} {noMesh : A} → Plain says noMesh
@@ -37,20 +35,21 @@ answered {says = says} plain w answer a asked x r x′ told = record {
   };
 }
 
-pub sought : (w : List ℕ) (answer : Map → Answer) (a : Found) → Asked foundSays noFound w answer a
-    → (y x r y′ x′ : ℕ) → ToldFound (foundSays a) y x r y′ x′ → Sought w answer y x r y′ x′
-sought w answer a asked y x r y′ x′ t = record {
-  half = answered found-plain w answer a asked x r x′ (t .told);
+-- one or none
+pub sought : {A : Type 0} {says : A → Answer} {noMesh : A} → Plain says noMesh → (w : List ℕ) (answer : Map → Answer) (a : A) → Asked says noMesh w answer a
+    → (y x r y′ x′ : ℕ) → ToldFound (says a) y x r y′ x′ → Sought w answer y x r y′ x′
+sought plain w answer a asked y x r y′ x′ t = record {
+  half = answered plain w answer a asked x r x′ (t .told);
   kept = λ some. t .found ∙ rw (ne-eqb r 0 some);
   found = λ m wf z. t .found ∙ rw (eq-eqb r 0 z) (ap (λ (b : Answer). length (b .values)) (asked .answers m wf));
 }
 
--- a half-facet and its way
-pub faced : (w : List ℕ) (answer : Map → Answer) (a : HalfAt) → Asked halfSays noHalf w answer a
-    → (x y r x′ y′ : ℕ) → ToldTwo (halfSays a) x y r x′ y′ → Faced w answer x y r x′ y′
-faced w answer a asked x y r x′ y′ t = record {
-  half = answered half-plain w answer a asked x r x′ (t .told);
-  kept = λ some. t .second ∙ ap (λ (l : List ℕ). getD l 1 y) (half-plain .quiet a (λ z. some (t .told .number ∙ z)));
+-- two numbers
+pub faced : {A : Type 0} {says : A → Answer} {noMesh : A} → Plain says noMesh → (w : List ℕ) (answer : Map → Answer) (a : A) → Asked says noMesh w answer a
+    → (x y r x′ y′ : ℕ) → ToldTwo (says a) x y r x′ y′ → Faced w answer x y r x′ y′
+faced plain w answer a asked x y r x′ y′ t = record {
+  half = answered plain w answer a asked x r x′ (t .told);
+  kept = λ some. t .second ∙ ap (λ (l : List ℕ). getD l 1 y) (plain .quiet a (λ z. some (t .told .number ∙ z)));
   way = λ m wf. t .second ∙ ap (λ (b : Answer). getD (b .values) 1 y) (asked .answers m wf);
 }
 

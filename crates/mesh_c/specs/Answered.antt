@@ -20,13 +20,13 @@ pub record Answered (w : List ℕ) (answer : Map → Answer) (x r x′ : ℕ) : 
   pub kept : (r ≡ 0 → ⊥) → x′ ≡ x
   pub answers : (m : Map) → Wf w m → Told (answer m) x r x′
 
--- a half-facet and the way that it runs
+-- two numbers: a half-facet and the way that it runs, the capacities
 pub record Faced (w : List ℕ) (answer : Map → Answer) (x y r x′ y′ : ℕ) : Type 0 where
   pub half : Answered w answer x r x′
   pub kept : (r ≡ 0 → ⊥) → y′ ≡ y
   pub way : (m : Map) → Wf w m → y′ ≡ getD (answer m .values) 1 y
 
--- a half-facet or none: y tells how many there are
+-- a half-facet or none, a cell or none: y tells how many there are
 pub record Sought (w : List ℕ) (answer : Map → Answer) (y x r y′ x′ : ℕ) : Type 0 where
   pub half : Answered w answer x r x′
   pub kept : (r ≡ 0 → ⊥) → y′ ≡ y

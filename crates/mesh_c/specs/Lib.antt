@@ -3,3 +3,4 @@ pub mod Changed
 pub mod Mornings
 pub mod Placed
 pub mod Journals
+pub mod Version

@@ -5,9 +5,11 @@
 // leaves what was lent as it was, on any memory (specs/Answered.antt, specs/Changed.antt, specs/Placed.antt, specs/Journals.antt). What a
 // caller should know: a list is a pointer and a count of 32-bit words (of positions 16-bit numbers, of points 64-bit floats), aligned to their
 // size; what a call writes may not overlap anything else that is lent to it.
+ghost use mathlib.Core.Path.{_≡_};
 ghost use Rattle.numbers.specs.Half.{halfOf};
 ghost use Rattle.numbers.specs.Sizes.{capsUnder, capacities};
 ghost use Rattle.map.specs.Answers.{cellChecks, halfChecks, starChecks, typeChecks, typeAnswer, siblingAnswer, borderAnswer, firstAnchorAnswer, lookupAnswer, countAnswer, editionAnswer};
+ghost use Rattle.map.specs.Free.{noChecks, capacitiesAnswer, freeAnswer, liveNumbers};
 ghost use Rattle.map.specs.Cells.{bodyOf, cellsOf, neighbours};
 ghost use Rattle.map.specs.Siblings.{cycle};
 ghost use Rattle.map.specs.Ways.{cycleWays};
@@ -23,20 +25,24 @@ ghost use Rattle.mesh_c.specs.Changed.{Emptied, Raised, Changed};
 ghost use Rattle.mesh_c.specs.Journals.{ByNumber, ByBit};
 ghost use Rattle.mesh_c.specs.Mornings.{EditsTold};
 ghost use Rattle.mesh_c.specs.Placed.{Sized, Centre, Corners};
+ghost use Rattle.mesh_c.specs.Version.{version};
 use ask::border;
 use ask::count_of_type;
 use ask::first_anchor;
+use ask::free;
 use ask::sibling;
 use ask::type_of;
 use build::build;
 use build::build_edition;
 use c_answers::byte_of;
 use c_answers::tell_built;
+use c_answers::tell_cell;
 use c_answers::tell_centre;
 use c_answers::tell_edits;
 use c_answers::tell_found;
 use c_answers::tell_half;
 use c_answers::tell_measure;
+use c_answers::tell_pair;
 use c_answers::tell_truth;
 use c_answers::tell_value;
 use c_answers::tell_verdict;
@@ -52,6 +58,7 @@ use journal_whole::whole_journal;
 use listing::anchors;
 use listing::cells_of_type;
 use listing::cycle;
+use listing::live;
 use listing::lookup;
 use listing::neighbours;
 use listing::star;
@@ -305,6 +312,38 @@ pub extern "C" fn mk_edition(mesh: &[u32], edition: &mut u32) -> u8
     ensures { λ r. ⌜ Answered (now (mesh .entry)) editionAnswer (now (edition .entry)) r (now (edition .exit)) ⌝ }
 {
     tell_value(ask::edition(mesh), edition)
+}
+
+// The capacities that the mesh was formatted for.
+#[no_mangle]
+pub extern "C" fn mk_capacities(mesh: &[u32], marks: &mut u32, cells: &mut u32) -> u8
+    ensures { λ r. ⌜ Faced (now (mesh .entry)) capacitiesAnswer (now (marks .entry)) (now (cells .entry)) r (now (marks .exit)) (now (cells .exit)) ⌝ }
+{
+    tell_pair(ask::capacities(mesh), marks, cells)
+}
+
+// The smallest cell number that is not live, if there is one.
+#[no_mangle]
+pub extern "C" fn mk_free(mesh: &[u32], found: &mut u32, cell: &mut u32) -> u8
+    ensures { λ r. ⌜ Sought (now (mesh .entry)) freeAnswer (now (found .entry)) (now (cell .entry)) r (now (found .exit)) (now (cell .exit)) ⌝ }
+{
+    tell_cell(free(mesh), found, cell)
+}
+
+// All live cells.
+#[no_mangle]
+pub extern "C" fn mk_live(mesh: &[u32], out: &mut [u32], count: &mut u32) -> u8
+    ensures { λ r. ⌜ Listed (now (mesh .entry)) noChecks liveNumbers (now (out .entry)) (now (count .entry)) r (now (out .exit)) (now (count .exit)) ⌝ }
+{
+    tell_value(live(mesh, out), count)
+}
+
+// The version of the library: major, minor and patch, a byte each.
+#[no_mangle]
+pub extern "C" fn mk_version() -> u32
+    ensures { λ r. ⌜ r ≡ version ⌝ }
+{
+    0x040300
 }
 
 // The corners of a cell as points, three floats each.

@@ -10,6 +10,8 @@ pub fn answers(memory: &Memory) -> Vec<String> {
     let mesh = memory.mesh.as_ref().expect("a mesh to ask");
     let mut lines = vec![format!("whole {}", memory.whole())];
     lines.push(format!("edition {:?}", memory.edition()));
+    let (live, free) = (memory.live(PLENTY), memory.free());
+    lines.push(format!("{:?} {live:?} {free:?}", memory.capacities()));
     for cell in 0..=mesh.cells {
         about_cell(memory, cell, &mut lines);
     }

@@ -1,12 +1,13 @@
 -- `ask::edition` meets its contract.
 use mathlib.Core.Path.{sym, _∙_}
-use Rattle.ask.proofs.Calls.{edition-none, edition-given}
+use Rattle.ask.proofs.Asks.{mesh-none}
+use Rattle.ask.proofs.Calls.{edition-given}
 use borrow.Author.Needs.{needs}
 use Rattle.ask.proofs.edition.Statement.{statement}
 use Rattle.ask.proofs.edition.Tie as tie
 
 returns : tie.Need-returns
-returns c = edition-none _ (sym (c .enum-told .given .1) ∙ c .before .before .«open» .ensures)
+returns c = mesh-none _ _ _ _ (sym (c .enum-told .given .1) ∙ c .before .before .«open» .ensures)
 
 returns-2 : tie.Need-returns-2
 returns-2 c =
