@@ -29,6 +29,15 @@ extern "C" {
         place: *mut u32,
     ) -> u8;
     pub fn mk_edition(mesh: *const u32, words: usize, edition: *mut u32) -> u8;
+    pub fn mk_capacities(mesh: *const u32, words: usize, marks: *mut u32, cells: *mut u32) -> u8;
+    pub fn mk_free(mesh: *const u32, words: usize, found: *mut u32, cell: *mut u32) -> u8;
+    pub fn mk_live(
+        mesh: *const u32,
+        words: usize,
+        out: *mut u32,
+        room: usize,
+        count: *mut u32,
+    ) -> u8;
     pub fn mk_insert(
         mesh: *mut u32,
         words: usize,
@@ -199,4 +208,5 @@ extern "C" {
         start: *const u32,
         start_words: usize,
     ) -> u8;
+    pub fn mk_version() -> u32;
 }

@@ -56,6 +56,11 @@ impl<J, S> Journal<J, S> {
 impl<J: AsMut<[u32]>, S: AsMut<[u32]>> Journal<J, S> {
     /// Makes the words a journal of this mesh with no edit, and copies the mesh
     /// into the starting map.
+    ///
+    /// # Errors
+    ///
+    /// [`Refusal::NotMesh`] for the mesh, [`Refusal::MemoryShort`]. The first that
+    /// fits, in this order.
     pub fn begin<W: AsRef<[u32]>>(&mut self, mesh: &Mesh<W>) -> Result<(), Refusal> {
         let mesh = mesh.words();
         let (journal, start) = (self.journal.as_mut(), self.start.as_mut());
@@ -75,6 +80,11 @@ impl<J: AsMut<[u32]>, S: AsMut<[u32]>> Journal<J, S> {
 
     /// Moves the edits up to a day into the starting map and frees their room.
     /// Every day from then on reads as before; a year of 366 days always stays.
+    ///
+    /// # Errors
+    ///
+    /// [`Refusal::NotMesh`], [`Refusal::FoldNotAllowed`]. The first that fits, in
+    /// this order.
     pub fn fold(&mut self, day: u32) -> Result<(), Refusal> {
         let (journal, start) = (self.journal.as_mut(), self.start.as_mut());
         Refusal::from_number(unsafe {
@@ -91,6 +101,12 @@ impl<J: AsMut<[u32]>, S: AsMut<[u32]>> Journal<J, S> {
 
 impl<J: AsMut<[u32]>, S> Journal<J, S> {
     /// Inserts a cell on a day, and enters the edit.
+    ///
+    /// # Errors
+    ///
+    /// [`Refusal::NotMesh`], [`Refusal::CapacityAbove`] for a day above 65,535,
+    /// [`Refusal::DayBefore`], as [`Mesh::insert`], [`Refusal::JournalFull`]. The
+    /// first that fits, in this order.
     pub fn insert<W: AsMut<[u32]>>(
         &mut self,
         mesh: &mut Mesh<W>,
@@ -117,6 +133,12 @@ impl<J: AsMut<[u32]>, S> Journal<J, S> {
     }
 
     /// Removes a cell on a day, and enters the edit.
+    ///
+    /// # Errors
+    ///
+    /// [`Refusal::NotMesh`], [`Refusal::CapacityAbove`] for a day above 65,535,
+    /// [`Refusal::DayBefore`], as [`Mesh::remove`], [`Refusal::JournalFull`]. The
+    /// first that fits, in this order.
     pub fn remove<W: AsMut<[u32]>>(
         &mut self,
         mesh: &mut Mesh<W>,
@@ -150,6 +172,11 @@ impl<J: AsRef<[u32]>, S: AsRef<[u32]>> Journal<J, S> {
 
     /// Makes the words of `second` the mesh that all edits of the day and earlier
     /// ones leave; a day after the last reads as the last.
+    ///
+    /// # Errors
+    ///
+    /// [`Refusal::NotMesh`], [`Refusal::DayFolded`], [`Refusal::MemoryShort`]. The
+    /// first that fits, in this order.
     pub fn on<W: AsMut<[u32]>>(&self, day: u32, second: &mut Mesh<W>) -> Result<(), Refusal> {
         let (journal, start) = (self.words(), self.start());
         let second = second.words.as_mut();

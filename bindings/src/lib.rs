@@ -42,15 +42,24 @@
 //! cell, and a list of [`Edits`] that is stopped leaves those before. A
 //! [`Journal`] keeps each edit with its day and gives the map on any of them.
 
+#![warn(clippy::missing_errors_doc)]
+
 mod calls;
 mod journal;
+mod lists;
 mod numbers;
 mod records;
 mod refusal;
 
+/// What the repository's README shows of Rust is run.
+#[cfg(doctest)]
+#[doc = include_str!("../../README.md")]
+struct Readme;
+
 use std::fmt;
 
 pub use journal::{journal_words, Journal};
+pub use lists::{Live, Walk};
 use numbers::Register;
 pub use numbers::{Cell, Half, Mark, Way};
 pub use records::{Edits, Records, Tally};
@@ -72,6 +81,12 @@ const MOST_CORNERS: usize = 8;
 /// The words that a mesh of these capacities needs.
 pub const fn room(marks: u32, cells: u32) -> usize {
     16 + 8 * marks as usize + 32 * cells as usize
+}
+
+/// The version of the proved library: major, minor and patch, a byte each.
+pub fn version() -> u32 {
+    // SAFETY: nothing is lent
+    unsafe { calls::mk_version() }
 }
 
 /// The types of cells, with their codes.
@@ -207,6 +222,12 @@ pub struct Walker(pub Half);
 impl Walker {
     /// The next place of the cycle as it is now, and which way it runs; or the
     /// refusal for the walker's half-facet.
+    ///
+    /// # Errors
+    ///
+    /// [`Refusal::NotMesh`], [`Refusal::CellOutside`],
+    /// [`Refusal::CellNotLive`], [`Refusal::FacetOutside`]. The first that
+    /// fits, in this order.
     pub fn step<W: AsRef<[u32]>>(self, mesh: &Mesh<W>) -> Result<(Walker, Way), Refusal> {
         let Walker(half) = self;
         let (half, way) = mesh.sibling(half.cell(), half.facet())?;
@@ -254,11 +275,20 @@ pub struct Mesh<W> {
 impl Mesh<Vec<u32>> {
     /// A mesh of these capacities with no cell, in words of its own, under
     /// edition 1.
+    ///
+    /// # Errors
+    ///
+    /// [`Refusal::CapacityAbove`].
     pub fn with_room(marks: u32, cells: u32) -> Result<Mesh<Vec<u32>>, Refusal> {
         Mesh::with_room_edition(marks, cells, Edition::First)
     }
 
     /// The same under an edition.
+    ///
+    /// # Errors
+    ///
+    /// [`Refusal::TypeUnknown`] for an edition that is none,
+    /// [`Refusal::CapacityAbove`]. The first that fits, in this order.
     pub fn with_room_edition(
         marks: u32,
         cells: u32,
@@ -288,6 +318,11 @@ impl<W> Mesh<W> {
 
 impl<W: AsMut<[u32]>> Mesh<W> {
     /// Makes the words a mesh of these capacities with no cell, under edition 1.
+    ///
+    /// # Errors
+    ///
+    /// [`Refusal::CapacityAbove`], [`Refusal::MemoryShort`]. The first that
+    /// fits, in this order.
     pub fn format(&mut self, marks: u32, cells: u32) -> Result<(), Refusal> {
         let words = self.words.as_mut();
         // SAFETY: the pointer and the count are those of one slice, which is
@@ -298,6 +333,12 @@ impl<W: AsMut<[u32]>> Mesh<W> {
     }
 
     /// The same under an edition, which the mesh keeps.
+    ///
+    /// # Errors
+    ///
+    /// [`Refusal::TypeUnknown`] for an edition that is none,
+    /// [`Refusal::CapacityAbove`], [`Refusal::MemoryShort`]. The first that
+    /// fits, in this order.
     pub fn format_edition(
         &mut self,
         marks: u32,
@@ -314,6 +355,11 @@ impl<W: AsMut<[u32]>> Mesh<W> {
 
     /// Formats under edition 1 and inserts each record in order. A build refused
     /// at a record leaves a mesh with no cell.
+    ///
+    /// # Errors
+    ///
+    /// As [`format`](Mesh::format), with record 0, and at a record as
+    /// [`insert`](Mesh::insert), or [`Refusal::CountWrong`] where it is cut short.
     pub fn build(&mut self, marks: u32, cells: u32, records: &Records) -> Result<(), BuildRefused> {
         let records = records.words();
         let words = self.words.as_mut();
@@ -335,6 +381,11 @@ impl<W: AsMut<[u32]>> Mesh<W> {
     }
 
     /// The same under an edition, which the mesh keeps.
+    ///
+    /// # Errors
+    ///
+    /// As [`format_edition`](Mesh::format_edition), with record 0, and at a record
+    /// as [`insert`](Mesh::insert), or [`Refusal::CountWrong`] where it is cut short.
     pub fn build_edition(
         &mut self,
         marks: u32,
@@ -363,6 +414,14 @@ impl<W: AsMut<[u32]>> Mesh<W> {
     }
 
     /// Inserts a cell under a number of the caller's.
+    ///
+    /// # Errors
+    ///
+    /// [`Refusal::NotMesh`], [`Refusal::CellOutside`], [`Refusal::CellLive`],
+    /// [`Refusal::TypeUnknown`], [`Refusal::CountWrong`],
+    /// [`Refusal::MarkOutside`], [`Refusal::MarkTwice`], [`Refusal::CellSame`],
+    /// [`Refusal::FaceFull`] under edition 2, [`Refusal::MarkFull`]. The first
+    /// that fits, in this order.
     pub fn insert(
         &mut self,
         cell: Cell,
@@ -386,6 +445,11 @@ impl<W: AsMut<[u32]>> Mesh<W> {
     }
 
     /// Removes a cell.
+    ///
+    /// # Errors
+    ///
+    /// [`Refusal::NotMesh`], [`Refusal::CellOutside`],
+    /// [`Refusal::CellNotLive`]. The first that fits, in this order.
     pub fn remove(&mut self, cell: Cell) -> Result<(), Refusal> {
         let words = self.words.as_mut();
         // SAFETY: as in `format`.
@@ -395,6 +459,13 @@ impl<W: AsMut<[u32]>> Mesh<W> {
     /// Makes the edits in order up to the first that is refused; those before it
     /// stay. How many were made; the tally counts them, and one refused where
     /// the list was stopped.
+    ///
+    /// # Errors
+    ///
+    /// [`Refusal::NotMesh`] with none made. At an edit's turn as
+    /// [`insert`](Mesh::insert) or [`remove`](Mesh::remove), or
+    /// [`Refusal::TypeUnknown`] for another kind and [`Refusal::CountWrong`] where it
+    /// is cut short.
     pub fn edits(&mut self, edits: &Edits, tally: &mut Tally) -> Result<usize, EditsStopped> {
         let edits = edits.words();
         let words = self.words.as_mut();
@@ -427,6 +498,10 @@ impl<W: AsRef<[u32]>> Mesh<W> {
     }
 
     /// The number of the edition that the mesh was formatted or built under.
+    ///
+    /// # Errors
+    ///
+    /// [`Refusal::NotMesh`].
     pub fn edition(&self) -> Result<u32, Refusal> {
         // SAFETY: here and in the other queries, each pointer and count are
         // those of one slice, and what is written is lent to the call alone.
@@ -435,24 +510,77 @@ impl<W: AsRef<[u32]>> Mesh<W> {
         })
     }
 
-    /// The code of a cell's type.
-    pub fn type_of(&self, cell: Cell) -> Result<u32, Refusal> {
-        one_number(self.words(), |words, n, code| unsafe {
+    /// The capacities that the mesh was formatted or built for: marks, cells.
+    ///
+    /// # Errors
+    ///
+    /// [`Refusal::NotMesh`].
+    pub fn capacities(&self) -> Result<(u32, u32), Refusal> {
+        let mut cells = 0;
+        let marks = one_number(self.words(), |words, n, marks| unsafe {
+            calls::mk_capacities(words, n, marks, &mut cells)
+        })?;
+        Ok((marks, cells))
+    }
+
+    /// The smallest cell number that is not live, if there is one: what an
+    /// insert may take.
+    ///
+    /// ```
+    /// # use mengkiloh::{Cell, Mark, Mesh, Type};
+    /// # fn main() -> Result<(), mengkiloh::Refusal> {
+    /// let mut map = Mesh::with_room(6, 2)?;
+    /// map.insert(Cell(0), Type::Bar, &[0, 1].map(Mark))?;
+    /// assert_eq!(map.free()?, Some(Cell(1)));
+    /// map.insert(Cell(1), Type::Bar, &[1, 2].map(Mark))?;
+    /// assert_eq!(map.free()?, None);
+    /// assert_eq!(map.live()?, [0, 1].map(Cell));
+    /// # Ok(())
+    /// # }
+    /// ```
+    ///
+    /// # Errors
+    ///
+    /// [`Refusal::NotMesh`].
+    pub fn free(&self) -> Result<Option<Cell>, Refusal> {
+        let mut cell = 0;
+        let found = one_number(self.words(), |words, n, found| unsafe {
+            calls::mk_free(words, n, found, &mut cell)
+        })?;
+        Ok((found == 1).then_some(Cell(cell)))
+    }
+
+    /// The type of a cell. Words that are no well-formed mesh may have another
+    /// code there: 14 too.
+    ///
+    /// # Errors
+    ///
+    /// [`Refusal::NotMesh`], [`Refusal::CellOutside`],
+    /// [`Refusal::CellNotLive`]. The first that fits, in this order.
+    pub fn type_of(&self, cell: Cell) -> Result<Type, Refusal> {
+        let code = one_number(self.words(), |words, n, code| unsafe {
             calls::mk_type(words, n, cell.0, code)
-        })
+        })?;
+        Type::try_from(code).map_err(|_| Refusal::NotMesh)
     }
 
     /// The marks of a cell: the very words of the mesh that store them.
+    ///
+    /// # Errors
+    ///
+    /// [`Refusal::NotMesh`], [`Refusal::CellOutside`],
+    /// [`Refusal::CellNotLive`]. The first that fits, in this order.
     pub fn marks_of(&self, cell: Cell) -> Result<&[Mark], Refusal> {
-        let words = self.words();
-        let mut count = 0;
-        let at = one_number(words, |words, n, at| unsafe {
-            calls::mk_marks(words, n, cell.0, at, &mut count)
-        })?;
-        Ok(numbers::numbers(&words[at as usize..][..count as usize]))
+        marks_in(self.words(), cell)
     }
 
     /// The next half-facet with the same set of marks, and which way it runs.
+    ///
+    /// # Errors
+    ///
+    /// [`Refusal::NotMesh`], [`Refusal::CellOutside`],
+    /// [`Refusal::CellNotLive`], [`Refusal::FacetOutside`]. The first that
+    /// fits, in this order.
     pub fn sibling(&self, cell: Cell, facet: u32) -> Result<(Half, Way), Refusal> {
         let mut way = 0;
         let half = one_number(self.words(), |words, n, half| unsafe {
@@ -462,6 +590,12 @@ impl<W: AsRef<[u32]>> Mesh<W> {
     }
 
     /// Whether a half-facet is alone in its set.
+    ///
+    /// # Errors
+    ///
+    /// [`Refusal::NotMesh`], [`Refusal::CellOutside`],
+    /// [`Refusal::CellNotLive`], [`Refusal::FacetOutside`]. The first that
+    /// fits, in this order.
     pub fn border(&self, cell: Cell, facet: u32) -> Result<bool, Refusal> {
         one_number(self.words(), |words, n, yes| unsafe {
             calls::mk_border(words, n, cell.0, facet, yes)
@@ -470,6 +604,12 @@ impl<W: AsRef<[u32]>> Mesh<W> {
     }
 
     /// The first anchor of a mark in a dimension, if there is one.
+    ///
+    /// # Errors
+    ///
+    /// [`Refusal::NotMesh`], [`Refusal::TypeUnknown`] for a dimension that is
+    /// not 1 to 3, [`Refusal::MarkOutside`]. The first that fits, in this
+    /// order.
     pub fn first_anchor(&self, dimension: u32, mark: Mark) -> Result<Option<Half>, Refusal> {
         let mut half = 0;
         let found = one_number(self.words(), |words, n, found| unsafe {
@@ -479,6 +619,11 @@ impl<W: AsRef<[u32]>> Mesh<W> {
     }
 
     /// The smallest half-facet with this set of 1 to 4 marks, if there is one.
+    ///
+    /// # Errors
+    ///
+    /// [`Refusal::NotMesh`], [`Refusal::CountWrong`], [`Refusal::MarkOutside`],
+    /// [`Refusal::MarkTwice`]. The first that fits, in this order.
     pub fn lookup(&self, set: &[Mark]) -> Result<Option<Half>, Refusal> {
         let set = numbers::words(set);
         let mut half = 0;
@@ -489,6 +634,11 @@ impl<W: AsRef<[u32]>> Mesh<W> {
     }
 
     /// How many live cells a type has, as the head says it.
+    ///
+    /// # Errors
+    ///
+    /// [`Refusal::NotMesh`], [`Refusal::TypeUnknown`]. The first that fits, in
+    /// this order.
     pub fn count(&self, code: impl Into<u32>) -> Result<u32, Refusal> {
         let code = code.into();
         one_number(self.words(), |words, n, count| unsafe {
@@ -498,6 +648,12 @@ impl<W: AsRef<[u32]>> Mesh<W> {
 
     /// The corners of a cell as points. Positions are three whole metres for
     /// each mark of the capacity.
+    ///
+    /// # Errors
+    ///
+    /// [`Refusal::NotMesh`], [`Refusal::CellOutside`],
+    /// [`Refusal::CellNotLive`], [`Refusal::PositionsShort`]. The first that
+    /// fits, in this order.
     pub fn points(&self, positions: &[i16], cell: Cell) -> Result<Vec<Point>, Refusal> {
         let mut floats = [0.0; 3 * MOST_CORNERS];
         let count = self.points_into(positions, cell, &mut floats)?;
@@ -511,6 +667,12 @@ impl<W: AsRef<[u32]>> Mesh<W> {
 
     /// The corners in the first places of `out`, three floats each; how many
     /// corners they are.
+    ///
+    /// # Errors
+    ///
+    /// [`Refusal::NotMesh`], [`Refusal::CellOutside`],
+    /// [`Refusal::CellNotLive`], [`Refusal::PositionsShort`],
+    /// [`Refusal::OutputShort`]. The first that fits, in this order.
     pub fn points_into(
         &self,
         positions: &[i16],
@@ -527,6 +689,12 @@ impl<W: AsRef<[u32]>> Mesh<W> {
 
     /// The centre of a cell: each coordinate's exact sum, divided once by the
     /// count of corners.
+    ///
+    /// # Errors
+    ///
+    /// [`Refusal::NotMesh`], [`Refusal::CellOutside`],
+    /// [`Refusal::CellNotLive`], [`Refusal::PositionsShort`]. The first that
+    /// fits, in this order.
     pub fn centre(&self, positions: &[i16], cell: Cell) -> Result<Point, Refusal> {
         let (at, numbers) = (positions.as_ptr(), positions.len());
         let words = self.words();
@@ -539,6 +707,13 @@ impl<W: AsRef<[u32]>> Mesh<W> {
     }
 
     /// The measure of a cell; a pyramid, a wedge and a brick have none.
+    ///
+    /// # Errors
+    ///
+    /// [`Refusal::NotMesh`], [`Refusal::CellOutside`],
+    /// [`Refusal::CellNotLive`], [`Refusal::TypeUnknown`] for a pyramid, a
+    /// wedge or a brick, [`Refusal::PositionsShort`]. The first that fits, in
+    /// this order.
     pub fn measure(&self, positions: &[i16], cell: Cell) -> Result<Measure, Refusal> {
         let (at, numbers) = (positions.as_ptr(), positions.len());
         let mut size = 0.0;
@@ -559,11 +734,23 @@ impl<W: AsRef<[u32]>> Mesh<W> {
     }
 
     /// The cells of a dimension that hold a mark, ascending.
+    ///
+    /// # Errors
+    ///
+    /// [`Refusal::NotMesh`], [`Refusal::TypeUnknown`] for a dimension that is
+    /// not 1 to 3, [`Refusal::MarkOutside`]. The first that fits, in this
+    /// order.
     pub fn star(&self, dimension: u32, mark: Mark) -> Result<Vec<Cell>, Refusal> {
         listed(MOST_AROUND, |out| self.star_into(dimension, mark, out))
     }
 
     /// The star in the first places of `out`; how many they are.
+    ///
+    /// # Errors
+    ///
+    /// [`Refusal::NotMesh`], [`Refusal::TypeUnknown`] for a dimension that is
+    /// not 1 to 3, [`Refusal::MarkOutside`], [`Refusal::OutputShort`]. The
+    /// first that fits, in this order.
     pub fn star_into(
         &self,
         dimension: u32,
@@ -576,11 +763,23 @@ impl<W: AsRef<[u32]>> Mesh<W> {
     }
 
     /// The anchors of a mark in a dimension, ascending.
+    ///
+    /// # Errors
+    ///
+    /// [`Refusal::NotMesh`], [`Refusal::TypeUnknown`] for a dimension that is
+    /// not 1 to 3, [`Refusal::MarkOutside`]. The first that fits, in this
+    /// order.
     pub fn anchors(&self, dimension: u32, mark: Mark) -> Result<Vec<Half>, Refusal> {
         listed(MOST_AROUND, |out| self.anchors_into(dimension, mark, out))
     }
 
     /// The anchors in the first places of `out`; how many they are.
+    ///
+    /// # Errors
+    ///
+    /// [`Refusal::NotMesh`], [`Refusal::TypeUnknown`] for a dimension that is
+    /// not 1 to 3, [`Refusal::MarkOutside`], [`Refusal::OutputShort`]. The
+    /// first that fits, in this order.
     pub fn anchors_into(
         &self,
         dimension: u32,
@@ -594,6 +793,12 @@ impl<W: AsRef<[u32]>> Mesh<W> {
 
     /// The whole cycle of a half-facet, itself first, each with the way in which
     /// its own sibling, the next one, runs.
+    ///
+    /// # Errors
+    ///
+    /// [`Refusal::NotMesh`], [`Refusal::CellOutside`],
+    /// [`Refusal::CellNotLive`], [`Refusal::FacetOutside`]. The first that
+    /// fits, in this order.
     pub fn cycle(&self, cell: Cell, facet: u32) -> Result<Vec<(Half, Way)>, Refusal> {
         let mut ways = [0; MOST_AROUND];
         let halves = listed(MOST_AROUND, |out| {
@@ -605,6 +810,12 @@ impl<W: AsRef<[u32]>> Mesh<W> {
 
     /// The cycle in the first places of `out` and the words of its ways in those
     /// of `ways`; how many they are.
+    ///
+    /// # Errors
+    ///
+    /// [`Refusal::NotMesh`], [`Refusal::CellOutside`],
+    /// [`Refusal::CellNotLive`], [`Refusal::FacetOutside`],
+    /// [`Refusal::OutputShort`]. The first that fits, in this order.
     pub fn cycle_into(
         &self,
         cell: Cell,
@@ -619,20 +830,58 @@ impl<W: AsRef<[u32]>> Mesh<W> {
     }
 
     /// The other cells that share a facet with a cell, ascending.
+    ///
+    /// # Errors
+    ///
+    /// [`Refusal::NotMesh`], [`Refusal::CellOutside`],
+    /// [`Refusal::CellNotLive`]. The first that fits, in this order.
     pub fn neighbours(&self, cell: Cell) -> Result<Vec<Cell>, Refusal> {
         listed(MOST_NEIGHBOURS, |out| self.neighbours_into(cell, out))
     }
 
     /// The neighbours in the first places of `out`; how many they are.
+    ///
+    /// # Errors
+    ///
+    /// [`Refusal::NotMesh`], [`Refusal::CellOutside`],
+    /// [`Refusal::CellNotLive`], [`Refusal::OutputShort`]. The first that fits,
+    /// in this order.
     pub fn neighbours_into(&self, cell: Cell, out: &mut [Cell]) -> Result<usize, Refusal> {
         one_list(self.words(), out, |words, n, out, room, count| unsafe {
             calls::mk_neighbours(words, n, cell.0, out, room, count)
         })
     }
 
+    /// All live cells, ascending.
+    ///
+    /// # Errors
+    ///
+    /// [`Refusal::NotMesh`].
+    pub fn live(&self) -> Result<Vec<Cell>, Refusal> {
+        let (_, cells) = self.capacities()?;
+        listed(cells as usize, |out| self.live_into(out))
+    }
+
+    /// The live cells in the first places of `out`; how many they are.
+    ///
+    /// # Errors
+    ///
+    /// [`Refusal::NotMesh`], [`Refusal::OutputShort`]. The first that fits, in this
+    /// order.
+    pub fn live_into(&self, out: &mut [Cell]) -> Result<usize, Refusal> {
+        one_list(self.words(), out, |words, n, out, room, count| unsafe {
+            calls::mk_live(words, n, out, room, count)
+        })
+    }
+
     /// The live cells of a type, ascending. Memory whose head counts more of
     /// them than it has room for is no well-formed mesh; the refusal is then
     /// [`Refusal::OutputShort`].
+    ///
+    /// # Errors
+    ///
+    /// [`Refusal::NotMesh`], [`Refusal::TypeUnknown`]. The first that fits, in
+    /// this order.
     pub fn cells(&self, code: impl Into<u32>) -> Result<Vec<Cell>, Refusal> {
         let code = code.into();
         let words = self.words();
@@ -646,10 +895,23 @@ impl<W: AsRef<[u32]>> Mesh<W> {
     }
 
     /// The cells of a type in the first places of `out`; how many they are.
+    ///
+    /// # Errors
+    ///
+    /// [`Refusal::NotMesh`], [`Refusal::TypeUnknown`],
+    /// [`Refusal::OutputShort`]. The first that fits, in this order.
     pub fn cells_into(&self, code: impl Into<u32>, out: &mut [Cell]) -> Result<usize, Refusal> {
         let code = code.into();
         cells_into(self.words(), code, out)
     }
+}
+
+fn marks_in(words: &[u32], cell: Cell) -> Result<&[Mark], Refusal> {
+    let mut count = 0;
+    let at = one_number(words, |words, n, at| unsafe {
+        calls::mk_marks(words, n, cell.0, at, &mut count)
+    })?;
+    Ok(numbers::numbers(&words[at as usize..][..count as usize]))
 }
 
 fn cells_into(words: &[u32], code: u32, out: &mut [Cell]) -> Result<usize, Refusal> {

@@ -284,7 +284,7 @@ fn lists_leave_the_rest(chance: &mut Chance, words: &[u32]) {
     let cell = Cell(chance.below(CELLS));
     let mark = Mark(chance.below(MARKS));
     let dimension = 1 + chance.below(3);
-    match chance.below(5) {
+    match chance.below(6) {
         0 => {
             leaves_the_rest(room, |out| mesh.star_into(dimension, mark, out));
         }
@@ -304,6 +304,9 @@ fn lists_leave_the_rest(chance: &mut Chance, words: &[u32]) {
         }
         3 => {
             leaves_the_rest(room, |out| mesh.neighbours_into(cell, out));
+        }
+        4 => {
+            leaves_the_rest(room, |out| mesh.live_into(out));
         }
         _ => {
             leaves_the_rest(room, |out| mesh.cells_into(1 + chance.below(7), out));
@@ -363,12 +366,13 @@ fn every_question() -> impl Iterator<Item = Question> {
         });
         pairs.chain([Question::Lookup(vec![a])])
     });
-    let edition = [Question::Edition];
-    cells
-        .chain(at_marks)
-        .chain(types)
-        .chain(sets)
-        .chain(edition)
+    let of_all = [
+        Question::Edition,
+        Question::Capacities,
+        Question::Free,
+        Question::Live,
+    ];
+    cells.chain(at_marks).chain(types).chain(sets).chain(of_all)
 }
 
 fn agrees(words: &[u32], questions: impl Iterator<Item = Question>) {

@@ -16,6 +16,7 @@ fn capacities_go_to_65535() {
     for (marks, cells) in [(65_535, 65_535), (65_535, 0), (0, 65_535), (0, 0)] {
         assert_eq!(Mesh::over(&mut words[..]).format(marks, cells), Ok(()));
         assert!(Mesh::over(&words[..]).whole());
+        assert_eq!(Mesh::over(&words[..]).capacities(), Ok((marks, cells)));
         assert_eq!(words[room(marks, cells)..].last(), Some(&SENTINEL));
     }
 }
@@ -129,6 +130,7 @@ fn a_list_fits_exactly_and_not_one_place_short() {
     }
     fits(&all[1..], |out| map.neighbours_into(Cell(0), out));
     fits(&all, |out| map.cells_into(Type::Triangle, out));
+    fits(&all, |out| map.live_into(out));
 }
 
 fn fits<T: Number>(list: &[T], fill: impl Fn(&mut [T]) -> Result<usize, Refusal>) {
@@ -163,6 +165,8 @@ fn a_full_mesh_is_built_and_whole() {
     assert_eq!(map.count(Type::Triangle), Ok(65_535));
     let all = map.cells(Type::Triangle);
     assert_eq!(all, Ok((0..65_535).map(Cell).collect()));
+    assert_eq!(map.live(), all);
+    assert_eq!(map.free(), Ok(None));
     let star = map.star(2, Mark(40_000));
     assert_eq!(star, Ok([39_998, 39_999, 40_000].map(Cell).to_vec()));
     let star = map.star(2, Mark(0));

@@ -66,6 +66,24 @@ fn the_header_has_these_names() {
     assert_eq!(theirs, Vec::from_iter(accepted.into_iter().chain(refused)));
 }
 
+/// The strings of C that stand between `opening` and the next semicolon, as one.
+fn string_behind(text: &str, opening: &str) -> String {
+    let (_, behind) = text.split_once(opening).expect("the case is there");
+    let (inside, _) = behind.split_once(';').expect("the case ends");
+    inside.split('"').skip(1).step_by(2).collect()
+}
+
+#[test]
+fn the_header_has_these_meanings() {
+    let inside = braced("include/mengkiloh.h", "switch (refusal) {");
+    for refusal in Refusal::ALL {
+        let case = format!("case MK_{}:", upper(&format!("{refusal:?}")));
+        assert_eq!(string_behind(&inside, &case), refusal.meaning());
+    }
+    assert_eq!(string_behind(&inside, "case MK_ACCEPTED:"), "accepted");
+    assert_eq!(inside.matches("case ").count(), Refusal::ALL.len() + 1);
+}
+
 /// Each type's line of the header: code, dimension, marks, facets, and the
 /// facets by their places.
 #[test]
@@ -150,6 +168,19 @@ fn the_kinds_of_edits_are_1_and_2() {
         .map(str::trim)
         .collect();
     assert_eq!(rows, ["INSERT = 1", "REMOVE = 2"]);
+}
+
+/// The header's version is the library's.
+#[test]
+fn the_header_has_the_version_of_the_library() {
+    let path = Path::new(env!("CARGO_MANIFEST_DIR")).join("../include/mengkiloh.h");
+    let text = std::fs::read_to_string(path).expect("the file is there");
+    let defined = text
+        .lines()
+        .find_map(|line| line.strip_prefix("#define MK_VERSION 0x"));
+    let digits = defined.expect("the version is there").trim_end_matches('u');
+    assert_eq!(u32::from_str_radix(digits, 16), Ok(mengkiloh::version()));
+    assert_eq!(mengkiloh::version().to_be_bytes(), [0, 4, 3, 0]);
 }
 
 #[test]

@@ -130,6 +130,9 @@ fn capacities_that_do_not_fit_ask_for_nothing() {
         let (answer, bytes) = asked_for(|| map.cells(Type::Triangle));
         assert_eq!(answer, Err(Refusal::NotMesh));
         assert_eq!(bytes, 0);
+        let (answer, bytes) = asked_for(|| map.live());
+        assert_eq!(answer, Err(Refusal::NotMesh));
+        assert_eq!(bytes, 0);
     }
     let nothing = Mesh::over([0; room(0, 0) - 1]);
     assert_eq!(nothing.cells(Type::Bar), Err(Refusal::NotMesh));
@@ -137,6 +140,7 @@ fn capacities_that_do_not_fit_ask_for_nothing() {
 
 /// Every call that makes a list, whatever it answers.
 fn every_list(map: &Mesh<Vec<u32>>) {
+    let _ = map.live();
     for code in 0..9_u32 {
         let _ = map.cells(code);
     }

@@ -82,6 +82,9 @@ pub fn listed<T: Number>(
 #[derive(Clone, Debug)]
 pub enum Question {
     Edition,
+    Capacities,
+    Free,
+    Live,
     Type(u32),
     Marks(u32),
     Neighbours(u32),
@@ -109,7 +112,7 @@ impl Question {
         let facet = chance.below(7);
         let dimension = chance.below(5);
         let code = chance.below(9);
-        match chance.below(16) {
+        match chance.below(19) {
             0 => Question::Type(cell),
             1 => Question::Marks(cell),
             2 => Question::Neighbours(cell),
@@ -128,6 +131,9 @@ impl Question {
             12 => Question::Points(cell),
             13 => Question::Centre(cell),
             14 => Question::Measure(cell),
+            15 => Question::Capacities,
+            16 => Question::Free,
+            17 => Question::Live,
             _ => Question::Count(code),
         }
     }
@@ -145,11 +151,21 @@ impl Question {
 
     pub fn to_library<W: AsRef<[u32]>>(&self, mesh: &Mesh<W>) -> Said {
         let one = |number: u32| vec![number];
+        let both = |numbers: (u32, u32)| vec![numbers.0, numbers.1];
         let perhaps = |half: Option<Half>| half.map(|half| half.0).into_iter().collect();
         let yes = |yes: bool| vec![u32::from(yes)];
         match *self {
             Question::Edition => ours(mesh.edition(), one),
-            Question::Type(c) => ours(mesh.type_of(Cell(c)), one),
+            Question::Capacities => ours(mesh.capacities(), both),
+            Question::Free => ours(mesh.free(), |cell| {
+                cell.map(|cell| cell.0).into_iter().collect()
+            }),
+            // no mesh has more cells than its capacity, whatever its words are
+            Question::Live => {
+                let most = mesh.capacities().map_or(0, |capacities| capacities.1);
+                listed(most as usize, |out| mesh.live_into(out))
+            }
+            Question::Type(c) => ours(mesh.type_of(Cell(c)), |kind| one(kind.into())),
             Question::Marks(c) => ours(mesh.marks_of(Cell(c)), plain),
             Question::Neighbours(c) => listed(762, |out| mesh.neighbours_into(Cell(c), out)),
             Question::Sibling(c, facet) => ours(mesh.sibling(Cell(c), facet), |it| {
@@ -176,9 +192,13 @@ impl Question {
 
     pub fn to_second(&self, memory: &Memory) -> Said {
         let one = |number: u32| vec![number];
-        let perhaps = |half: Option<u32>| half.into_iter().collect();
+        let both = |numbers: (u32, u32)| vec![numbers.0, numbers.1];
+        let perhaps = |number: Option<u32>| number.into_iter().collect();
         match *self {
             Question::Edition => theirs(memory.edition(), one),
+            Question::Capacities => theirs(memory.capacities(), both),
+            Question::Free => theirs(memory.free(), perhaps),
+            Question::Live => theirs(memory.live(PLENTY), |list| list),
             Question::Type(cell) => theirs(memory.type_of(cell), one),
             // marks are refused where the type is
             Question::Marks(cell) => match memory.type_of(cell) {
