@@ -2,7 +2,7 @@
  * their measures; a morning's edits in one call; the same complaint for earlier days; and solids under the second
  * edition.
  *
- *     cc -Iinclude examples/complaint.c libmesh_c.a -o complaint
+ *     cc -Itarget/mengkiloh examples/complaint.c target/mengkiloh/libmengkiloh.a -o complaint
  */
 #include "mengkiloh.h"
 
@@ -17,7 +17,7 @@ static uint32_t words[MK_ROOM(MARKS, CELLS)];
 static void must(uint8_t refusal)
 {
     if (refusal != 0) {
-        fprintf(stderr, "refused with %d\n", refusal);
+        fprintf(stderr, "refused with %d: %s\n", refusal, mk_meaning(refusal));
         exit(EXIT_FAILURE);
     }
 }
