@@ -10,7 +10,7 @@ use std::hint::black_box;
 
 /// "10,000 mixed edits"
 const EDITS: usize = 10_000;
-const ROUNDS: usize = 7;
+const ROUNDS: usize = 25;
 const SMALL: usize = 1_000;
 const LARGE: usize = 50_000;
 /// How many cells a cluster has.
@@ -25,8 +25,17 @@ pub fn run(files: &[String]) {
         std::env::consts::ARCH
     );
     println!(
-        "{:<30}{:>8}{:>8}{:>8}{:>9}{:>9}{:>28}{:>28}",
-        "", "build", "edits", "cluster", "growth", "(theirs)", "ours, ns", "theirs, ns"
+        "{:<30}{:>8}{:>8}{:>8}{:>9}{:>9}{:>9}{:>9}{:>28}{:>28}",
+        "",
+        "build",
+        "edits",
+        "cluster",
+        "growth",
+        "(theirs)",
+        "cluster",
+        "(theirs)",
+        "ours, ns",
+        "theirs, ns"
     );
     row("grid", grid(SMALL), grid(LARGE));
     let (small, large) = (grid(SMALL).shuffled(), grid(LARGE).shuffled());
@@ -78,8 +87,11 @@ fn row(name: &str, small: Map, large: Map) {
     for (our, their) in ours.iter().zip(theirs) {
         print!("{:>8.2}", our / their);
     }
-    print!("{:>9.2}", ours[1] / our_small[1]);
-    print!("{:>9.2}", theirs[1] / their_small[1]);
+    // growth of an edit anywhere, and of one in a cluster
+    for at in [1, 2] {
+        print!("{:>9.2}", ours[at] / our_small[at]);
+        print!("{:>9.2}", theirs[at] / their_small[at]);
+    }
     println!("{:>28}{:>28}", listed(ours), listed(theirs));
 }
 
