@@ -6,3 +6,4 @@ pub mod Links
 pub mod Differ
 pub mod Relinks
 pub mod Readied
+pub mod Inner

@@ -2,7 +2,7 @@
 use mathlib.Core.Path.{_≡_}
 use mathlib.Core.Bool.{Bool, true, false, not}
 use mathlib.Core.List.{List, _++_}
-use Prim.Native.Nat.{ℕ, _<_, _≤_}
+use Prim.Native.Nat.{ℕ, _*_, _<_, _≤_}
 use lib.ListN.{length, drop}
 use Rattle.lists.specs.Lists.{has, repeats}
 use Rattle.numbers.specs.declared.Caps.{Caps}
@@ -34,3 +34,11 @@ pub record MayLink (caps : Caps) (v k c : ℕ) (on : Bool) (s : State) : Type 0 
   pub corner : corner s c k ≡ v
   pub was : s .chain v c ≡ not on
   pub few : on ≡ true → length (chainOf caps s v) < mostAround
+
+-- a link of a mesh: 0, or that of a cell below the capacity
+abbrev pub Inner : List ℕ → Caps → ℕ → Type 0
+Inner w caps x = (s : State) → Pic w caps s → Linked caps s → x ≤ 8 * caps .cells
+
+-- no chain of a mesh leads to another number
+pub record Inside (w : List ℕ) (caps : Caps) (r : Bool) : Type 0 where
+  pub inside : (s : State) → Pic w caps s → Linked caps s → r ≡ false

@@ -9,7 +9,8 @@ ghost use mathlib.Core.Path.{_≡_};
 ghost use mathlib.Core.Bool.{true, false};
 ghost use Rattle.picture.specs.Changes.{withLink};
 ghost use Rattle.picture.specs.Step.{Step};
-ghost use Rattle.chain.specs.Chain.{Gathered, MayLink};
+ghost use Prim.Native.Nat.{_*_, _≤_};
+ghost use Rattle.chain.specs.Chain.{Gathered, MayLink, Inner, Inside};
 ghost use Rattle.chain.specs.Walk.{setLead, Found};
 use numbers::Caps;
 use numbers::Cell;
@@ -23,6 +24,10 @@ use store::write_first;
 use store::write_held;
 use store::write_link;
 use words::put;
+use words::word;
+
+// How many links of each chain are walked side by side at most.
+const MOST_STEPS: u32 = 12;
 
 // Where a cell stands in a chain, or would: the link to the cell before it, and the link to the first one from it on; 0 for none.
 pub struct Spot {
@@ -68,6 +73,64 @@ pub fn find(w: &[u32], caps: Caps, v: Mark, c: Cell) -> Spot
         n += 1;
     }
     Spot { before, after }
+}
+
+// The first link of a mark's chain; 0 for a number that is no mark's.
+fn entry(w: &[u32], caps: Caps, v: Mark) -> u32
+    ensures { λ r. ⌜ Inner (now (w .entry)) caps r ⌝ }
+{
+    if caps.marks <= v.0 {
+        return 0;
+    }
+    first_of(w, caps, v)
+}
+
+// The link behind a link; 0 behind none.
+fn behind(w: &[u32], caps: Caps, link: u32) -> u32
+    ensures { λ r. ⌜ (Inner (now (w .entry)) caps link → Inner (now (w .entry)) caps r) ⌝ }
+{
+    if link == 0 {
+        return 0;
+    }
+    let at = link - 1;
+    link_of(w, caps, Cell(at / 8), at % 8)
+}
+
+// Whether a link leads to no cell's number.
+fn beyond(caps: Caps, link: u32) -> bool
+    ensures { λ r. ⌜ (link ≤ 8 * caps .cells → r ≡ false) ⌝ }
+{
+    if link == 0 {
+        return false;
+    }
+    caps.cells <= (link - 1) / 8
+}
+
+// Whether a chain of the first three marks leads to no cell's number, as none of a mesh does. The three are walked side by side, so that no read
+// of one waits for another's: whoever walks them afterwards finds their cells at hand.
+pub fn leads_out(w: &[u32], caps: Caps, marks: &[u32]) -> bool
+    ensures { λ r. ⌜ Inside (now (w .entry)) caps r ⌝ }
+{
+    let mut a = entry(w, caps, Mark(word(marks, 0)));
+    let mut b = entry(w, caps, Mark(word(marks, 1)));
+    let mut c = entry(w, caps, Mark(word(marks, 2)));
+    let mut n: u32 = 0;
+    while n < MOST_STEPS {
+        if a == 0 && b == 0 && c == 0 {
+            return false;
+        }
+        a = behind(w, caps, a);
+        b = behind(w, caps, b);
+        c = behind(w, caps, c);
+        n += 1;
+    }
+    if beyond(caps, a) {
+        return true;
+    }
+    if beyond(caps, b) {
+        return true;
+    }
+    beyond(caps, c)
 }
 
 // The word that leads on from a link of the chain of v, or into the chain where that is 0, written.

@@ -16,6 +16,7 @@ ghost use Rattle.checks.specs.Checked.{Checked};
 ghost use Rattle.checks.specs.Opening.{Opens};
 ghost use Rattle.insert_checks.specs.Admit.{sameIn, fullIn, Same, Known, fullFace, Tells};
 use chain::gather;
+use chain::leads_out;
 use checks::Opening;
 use facet::facet_set;
 use facet::marks_at;
@@ -71,6 +72,10 @@ fn one_same(w: &[u32], caps: Caps, t: u32, marks: &[u32], cells: &[u32], n: u32)
 pub fn same_cell(w: &[u32], caps: Caps, t: u32, marks: &[u32]) -> bool
     ensures { λ r. ⌜ Same (now (w .entry)) caps t (now (marks .entry)) r ⌝ }
 {
+    // not on a mesh; there it brings the cells of all three chains to hand
+    if leads_out(w, caps, marks) {
+        return false;
+    }
     let mut cells = [0u32; MOST_AROUND as usize];
     let n = gather(w, caps, Mark(word(marks, 0)), &mut cells);
     one_same(w, caps, t, marks, &cells, n)

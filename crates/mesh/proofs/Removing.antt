@@ -10,6 +10,7 @@ use lib.Seq.{take-all}
 use Rattle.lists.specs.Filled.{Filled}
 use Rattle.lists.specs.Lists.{listOf}
 use Rattle.lists.proofs.Fill.{filled-take, listOf-take}
+use Rattle.lists.proofs.Bools.{clash}
 use Rattle.words.specs.Words.{partOf}
 use Rattle.words.proofs.Fits.{part-fits}
 use Rattle.words.proofs.Frame.{only-none, only-then}
@@ -31,6 +32,8 @@ use Rattle.picture.specs.Changes.{withBody, withCount}
 use Rattle.picture.specs.Writes.{MayWrite}
 use Rattle.picture.specs.Step.{Step}
 use Rattle.picture.proofs.Settles.{wf-pic}
+use Rattle.chain.specs.Chain.{Inside}
+use Rattle.chain.proofs.Inner.{wf-inside}
 use Rattle.facet.specs.Facet.{marksIn}
 use Rattle.facet.proofs.Read.{marks-is}
 use Rattle.checks.proofs.Rows.{cells-of, code-of}
@@ -108,6 +111,10 @@ module _ (w : List ℕ) (caps : Caps) (c : ℕ) (zeros held : List ℕ) (filled 
         let count : n ≡ length (m .at c .marks) = size ∙ (ap (λ (k : ℕ). shape k .marks) code ∙ sym (wf .sound .fitting c)) in
         out .wf m e wf ok code (part ∙ (ap (partOf held 0) count ∙ held-marks m e wf below));
   }
+
+-- where a chain leads out memory is no mesh, and nothing is made
+pub made-none : (caps : Caps) (w : List ℕ) (e : Edit) (r : Bool) → Inside w caps r → r ≡ true → Made caps w w e
+made-none caps w e r i t = record { inside = only-none; wf = λ m q wf ok. absurd (clash t (wf-inside w caps r i m q wf)) }
 
 -- the copy of a whole list
 pub copied-all : (l l′ o o′ : List ℕ) (k : ℕ) → l ≡ l′ → Filled (listOf k (λ i. getD l i 0)) o o′ → k ≤ length l → length l ≤ k → Filled l′ o o′

@@ -13,6 +13,7 @@ ghost use Rattle.lists.specs.Filled.{Filled};
 ghost use Rattle.facet.specs.Facet.{marksIn};
 ghost use Rattle.mesh.specs.Edited.{Edited, TakenOut};
 ghost use Rattle.store.specs.Layout.{nearMarks};
+use chain::leads_out;
 use checks::Opening;
 use checks::about_cell;
 use edit::clear_siblings;
@@ -106,6 +107,10 @@ fn make_remove(w: &mut [u32], caps: Caps, c: Cell)
     let t = code_of(w, caps, c);
     let mut held = [0u32; MOST_MARKS as usize];
     copy_marks(w, caps, c, &mut held);
+    // not on a mesh; there it brings the cells of all three chains to hand
+    if leads_out(w, caps, &held) {
+        return;
+    }
     take_out(w, caps, c, t, part(&held, 0, mark_count(t) as usize));
 }
 
