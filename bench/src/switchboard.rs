@@ -1,6 +1,6 @@
 //! Request 11 as it is written: our build and 10,000 mixed edits beside those of a
 //! hash map of facet sets in plain Rust, at 1,000 and at 50,000 cells, memory
-//! cleared first. Both in turn in one run, processor time, the best of several.
+//! cleared first. All in turn in one run, processor time, the best of several.
 
 use crate::clock::{best, busy};
 use crate::facet_sets::FacetSets;
@@ -81,8 +81,7 @@ pub fn once(names: &[String]) {
 }
 
 fn row(name: &str, small: Map, large: Map) {
-    let (our_small, their_small) = measured(&small);
-    let (ours, theirs) = measured(&large);
+    let [(our_small, their_small), (ours, theirs)] = measured([small, large]);
     print!("{name:<30}");
     for (our, their) in ours.iter().zip(theirs) {
         print!("{:>8.2}", our / their);
@@ -99,17 +98,24 @@ fn listed(figures: Figures) -> String {
     figures.map(|figure| format!("{figure:.0}")).join(" ")
 }
 
-/// Ours and theirs, in turn.
-fn measured(map: &Map) -> (Figures, Figures) {
-    let mut chance = Chance::new(11);
-    let anywhere = Edits::among(&mut chance, (0..map.cells.len() as u32).collect());
-    let clustered = Edits::among(&mut chance, map.cluster(CLUSTER));
-    let (mut ours, mut theirs) = ([f64::INFINITY; 3], [f64::INFINITY; 3]);
+/// Ours and theirs of both maps, all four in turn, so that a busy while tells on each.
+fn measured(maps: [Map; 2]) -> [(Figures, Figures); 2] {
+    let edits = [0, 1].map(|at| {
+        let map = &maps[at];
+        let mut chance = Chance::new(11);
+        let anywhere = Edits::among(&mut chance, (0..map.cells.len() as u32).collect());
+        (anywhere, Edits::among(&mut chance, map.cluster(CLUSTER)))
+    });
+    let mut figures = [([f64::INFINITY; 3], [f64::INFINITY; 3]); 2];
     for _ in 0..ROUNDS {
-        best(&mut ours, our_round(map, &anywhere, &clustered));
-        best(&mut theirs, their_round(map, &anywhere, &clustered));
+        for ((map, (anywhere, clustered)), (ours, theirs)) in
+            maps.iter().zip(&edits).zip(&mut figures)
+        {
+            best(ours, our_round(map, anywhere, clustered));
+            best(theirs, their_round(map, anywhere, clustered));
+        }
     }
-    (ours, theirs)
+    figures
 }
 
 fn our_round(map: &Map, anywhere: &Edits, clustered: &Edits) -> Figures {
