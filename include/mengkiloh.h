@@ -22,10 +22,10 @@
  * Every call but mk_version and the two whole checks answers a refusal number: 0 if it is accepted, else
  * why it is refused (enum mk_refusal; mk_meaning says it in words). Values come through pointers, and only
  * where the call is accepted: a refused call leaves everything that was lent as it was. The exceptions are
- * builds and mk_edits.
+ * builds, mk_off_read and mk_edits.
  *
  * A list is a pointer and a count of 32-bit words, of positions one of 16-bit numbers, of points one
- * of 64-bit floats. A list's pointer and the pointer of a single number are aligned to the size of
+ * of 64-bit floats, of text one of bytes. A list's pointer and the pointer of a single number are aligned to the size of
  * what they point to and not null; that of an empty list may be anything. What a call writes must
  * not overlap anything else that is lent to the same call. Places that a call only reads (those
  * marked const) may overlap each other.
@@ -48,10 +48,10 @@ extern "C" {
 #endif
 
 /*
- * The version that this header is of, 4.3.0: major, minor and patch, a byte each; and the version of
+ * The version that this header is of, 4.4.0: major, minor and patch, a byte each; and the version of
  * the library that is linked.
  */
-#define MK_VERSION 0x040300u
+#define MK_VERSION 0x040400u
 uint32_t mk_version(void);
 
 /* Why a call is refused. Checks run in the order that each call lists. */
@@ -74,6 +74,8 @@ enum mk_refusal {
     MK_FACET_OUTSIDE = 13,  /* local facet not below the type's count */
     MK_NOT_MESH = 14,       /* memory is not a mesh, or not a journal of it */
     MK_POSITIONS_SHORT = 16, /* position list shorter than three numbers per mark */
+    MK_OFF_BROKEN = 17,     /* the text is not of OFF's plain form; place says where */
+    MK_NOT_SURFACE = 18,    /* a live cell is neither triangle nor quad */
     MK_FACE_FULL = 19,      /* insert under edition 2: a third solid on a face */
     MK_DAY_BEFORE = 20,     /* entry: a day before the last */
     MK_DAY_FOLDED = 21,     /* query: a day before the last fold */
@@ -118,6 +120,10 @@ static inline const char *mk_meaning(uint8_t refusal)
             return "the memory is not a mesh, or not a journal of it";
         case MK_POSITIONS_SHORT:
             return "the list of positions is shorter than three numbers for each mark";
+        case MK_OFF_BROKEN:
+            return "the text is not of OFF's plain form";
+        case MK_NOT_SURFACE:
+            return "a live cell is neither triangle nor quad";
         case MK_FACE_FULL:
             return "under edition 2, a third solid on a face";
         case MK_DAY_BEFORE:
@@ -365,6 +371,36 @@ enum mk_measure_kind {
  */
 uint8_t mk_measure(const uint32_t *mesh, size_t words, const int16_t *positions, size_t numbers,
                    uint32_t cell, uint32_t *kind, double *measure);
+
+/*
+ * Surfaces in and out, as plain Geomview OFF text: the word OFF, three counts (marks, faces, and edges,
+ * which are not used), three whole metres a mark, then 3 or 4 and that many marks a face, parted by spaces
+ * or line ends (0a), which may also stand first or last. A number is 1 to 6 digits, a metre may have a minus
+ * first and is -32,768 to 32,767. No tab, no 0d, no comment and no plus sign is of this form.
+ *
+ * Read: the first two counts become the capacities, under edition 1, the faces cells 0, 1, 2 in the order of
+ * the text, and the metres the first numbers of positions, three a mark. Words beyond the room and numbers
+ * beyond three a mark stay as they were. length is the count of bytes of the text. Refused with 17, 1, 2, 16,
+ * and at a face as mk_insert. place is written on a refusal only: with 17 the byte place of the first word
+ * that breaks the form, or the length of a text that ends early, with 1, 2 and 16 it is 0, and else the place
+ * of the refused face, from 0. 17, 1, 2 and 16 change nothing else; a refused face leaves a formatted mesh
+ * with no live cell, and the positions as they were.
+ */
+uint8_t mk_off_read(uint32_t *mesh, size_t words, int16_t *positions, size_t numbers, const uint8_t *text,
+                    size_t length, size_t *place);
+
+/*
+ * Write: a line each for the word, the counts (edges 0), each mark of the capacity and each live face,
+ * ascending by number, with single spaces; the last line is ended too. The text is written to the first bytes
+ * of out, of which there are room, and its length to length; the other bytes stay as they were.
+ * MK_OFF_ROOM(marks, faces) bytes hold any such text. Refused with 14, 16, 18 for a live cell that is neither
+ * triangle nor quad, 12.
+ */
+uint8_t mk_off_write(const uint32_t *mesh, size_t words, const int16_t *positions, size_t numbers,
+                     uint8_t *out, size_t room, size_t *length);
+
+/* The bytes that the longest text of so many marks and faces takes: a head, 21 a mark and 26 a face. */
+#define MK_OFF_ROOM(marks, faces) ((size_t)18 + (size_t)21 * (size_t)(marks) + (size_t)26 * (size_t)(faces))
 
 /*
  * Whole check: 1 if the words are a well-formed mesh, else 0. It never refuses, also under 16 words.

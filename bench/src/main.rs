@@ -1,13 +1,15 @@
 //! Nanoseconds a call: the proved library beside a plain-Rust hash map of
 //! facet sets, in one run on one machine; with `switchboard` and files of surfaces,
 //! what request 11 asks; with `once` and the name of a map, its edits made once, to be
-//! counted from outside; with `journal`, the map on any day.
+//! counted from outside; with `journal`, the map on any day; with `off` and files of
+//! surfaces, surfaces read and written.
 
 mod clock;
 mod facet_map;
 mod facet_sets;
 mod journal;
 mod maps;
+mod off;
 mod switchboard;
 
 use facet_map::FacetMap;
@@ -37,6 +39,12 @@ fn main() {
         Some((word, files)) if word == "switchboard" => switchboard::run(files),
         Some((word, names)) if word == "once" => switchboard::once(names),
         Some((word, _)) if word == "journal" => journal::run(),
+        Some((word, files)) if word == "off" => {
+            if let Err(why) = off::run(files) {
+                eprintln!("{why}");
+                std::process::exit(1);
+            }
+        }
         _ => calls(),
     }
 }

@@ -158,6 +158,24 @@ extern "C" {
         kind: *mut u32,
         measure: *mut f64,
     ) -> u8;
+    pub fn mk_off_read(
+        mesh: *mut u32,
+        words: usize,
+        positions: *mut i16,
+        numbers: usize,
+        text: *const u8,
+        length: usize,
+        place: *mut usize,
+    ) -> u8;
+    pub fn mk_off_write(
+        mesh: *const u32,
+        words: usize,
+        positions: *const i16,
+        numbers: usize,
+        out: *mut u8,
+        room: usize,
+        length: *mut usize,
+    ) -> u8;
     pub fn mk_whole(mesh: *const u32, words: usize) -> u8;
     pub fn mk_journal_begin(
         mesh: *const u32,

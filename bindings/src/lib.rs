@@ -40,7 +40,8 @@
 //! no rule of its own. A call that is refused changes nothing and gives the
 //! [`Refusal`] with its number; a build refused at a record leaves a mesh with no
 //! cell, and a list of [`Edits`] that is stopped leaves those before. A
-//! [`Journal`] keeps each edit with its day and gives the map on any of them.
+//! [`Journal`] keeps each edit with its day and gives the map on any of them. A
+//! [`Surface`] is read from OFF text and written as such.
 
 #![warn(clippy::missing_errors_doc)]
 
@@ -50,6 +51,7 @@ mod lists;
 mod numbers;
 mod records;
 mod refusal;
+mod surfaces;
 
 /// What the repository's README shows of Rust is run.
 #[cfg(doctest)]
@@ -64,6 +66,7 @@ use numbers::Register;
 pub use numbers::{Cell, Half, Mark, Way};
 pub use records::{Edits, Records, Tally};
 pub use refusal::Refusal;
+pub use surfaces::{off_room, OffError, OffRefused, Surface};
 
 /// "Capacities: 0 to 65,535 marks and 0 to 65,535 cells."
 const MOST_CAPACITY: u32 = 65_535;

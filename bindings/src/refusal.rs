@@ -1,9 +1,10 @@
-//! The refusals, with the outline's numbers and the names of `map::Refusal`.
+//! The refusals, with the outline's numbers and the names of `map::Refusal`;
+//! those of a surface, 17 and 18, are answers of two calls alone.
 
 use std::fmt;
 
 /// Why a call was refused. A refused call changes nothing, save a build refused
-/// at a record and a list of edits that is stopped.
+/// at a record, a surface refused at a face and a list of edits that is stopped.
 #[derive(Clone, Copy, Debug, PartialEq, Eq, PartialOrd, Ord, Hash)]
 #[repr(u8)]
 pub enum Refusal {
@@ -22,6 +23,8 @@ pub enum Refusal {
     FacetOutside = 13,
     NotMesh = 14,
     PositionsShort = 16,
+    OffBroken = 17,
+    NotSurface = 18,
     FaceFull = 19,
     DayBefore = 20,
     DayFolded = 21,
@@ -31,7 +34,7 @@ pub enum Refusal {
 
 impl Refusal {
     /// All of them, by number.
-    pub const ALL: [Refusal; 20] = [
+    pub const ALL: [Refusal; 22] = [
         Refusal::CapacityAbove,
         Refusal::MemoryShort,
         Refusal::CellOutside,
@@ -47,6 +50,8 @@ impl Refusal {
         Refusal::FacetOutside,
         Refusal::NotMesh,
         Refusal::PositionsShort,
+        Refusal::OffBroken,
+        Refusal::NotSurface,
         Refusal::FaceFull,
         Refusal::DayBefore,
         Refusal::DayFolded,
@@ -84,6 +89,8 @@ impl Refusal {
             Refusal::PositionsShort => {
                 "the list of positions is shorter than three numbers for each mark"
             }
+            Refusal::OffBroken => "the text is not of OFF's plain form",
+            Refusal::NotSurface => "a live cell is neither triangle nor quad",
             Refusal::FaceFull => "under edition 2, a third solid on a face",
             Refusal::DayBefore => "the day of an entry is before the last",
             Refusal::DayFolded => "the day that is asked for is before the last fold",

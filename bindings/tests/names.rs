@@ -33,10 +33,7 @@ fn ours() -> Vec<String> {
 #[test]
 fn numbers_are_those_of_the_table() {
     let numbers = Refusal::ALL.map(Refusal::number);
-    assert!(numbers
-        .iter()
-        .copied()
-        .eq((1..=14).chain([16]).chain(19..=23)));
+    assert!(numbers.iter().copied().eq((1..=14).chain(16..=23)));
 }
 
 #[test]
@@ -47,7 +44,10 @@ fn the_proved_crate_has_these_names() {
     // the frame program's own
     assert!(theirs.contains(&"BadFrame"));
     theirs.retain(|&name| name != "BadFrame");
-    assert_eq!(theirs, ours());
+    // answers of a surface's two calls alone, `Surfaced` and `Written`
+    let mut ours = ours();
+    ours.retain(|name| !["OffBroken", "NotSurface"].contains(&name.as_str()));
+    assert_eq!(theirs, ours);
 }
 
 #[test]
@@ -180,7 +180,7 @@ fn the_header_has_the_version_of_the_library() {
         .find_map(|line| line.strip_prefix("#define MK_VERSION 0x"));
     let digits = defined.expect("the version is there").trim_end_matches('u');
     assert_eq!(u32::from_str_radix(digits, 16), Ok(mengkiloh::version()));
-    assert_eq!(mengkiloh::version().to_be_bytes(), [0, 4, 3, 0]);
+    assert_eq!(mengkiloh::version().to_be_bytes(), [0, 4, 4, 0]);
 }
 
 #[test]

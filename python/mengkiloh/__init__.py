@@ -17,9 +17,9 @@ Every call is one of the proved library's, which is looked for when the first ca
 
 from .journal import Journal, journal_words
 from .library import LibraryMissing, version
-from .mesh import Capacities, Mesh, room
+from .mesh import Capacities, Mesh, off_room, room
 from .numbers import Edition, Half, Insert, Measure, MeasureKind, Point, Remove, Step, Tally, Type, Way
 from .refusals import *  # noqa: F403: one class for each refusal
 from .refusals import MEANINGS, REFUSALS, Refused
 
-__version__ = "4.3.0"
+__version__ = "4.4.0"

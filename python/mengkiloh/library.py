@@ -6,7 +6,7 @@ import ctypes
 import ctypes.util
 import os
 from collections.abc import Iterator
-from ctypes import POINTER, c_double, c_int16, c_size_t, c_uint8, c_uint32
+from ctypes import POINTER, c_char_p, c_double, c_int16, c_size_t, c_uint8, c_uint32
 from functools import cache
 from pathlib import Path
 
@@ -23,7 +23,8 @@ WORDS = POINTER(c_uint32)
 LENT = [WORDS, c_size_t]
 NUMBER = POINTER(c_uint32)
 FLOAT = POINTER(c_double)
-PLACED = [*LENT, POINTER(c_int16), c_size_t, c_uint32]
+METRES = [*LENT, POINTER(c_int16), c_size_t]
+PLACED = [*METRES, c_uint32]
 
 CALLS: dict[str, list] = {
     "mk_format_edition": [*LENT, c_uint32, c_uint32, c_uint32],
@@ -50,6 +51,8 @@ CALLS: dict[str, list] = {
     "mk_points": [*PLACED, FLOAT, c_size_t, NUMBER],
     "mk_centre": [*PLACED, FLOAT, FLOAT, FLOAT],
     "mk_measure": [*PLACED, NUMBER, FLOAT],
+    "mk_off_read": [*METRES, c_char_p, c_size_t, POINTER(c_size_t)],
+    "mk_off_write": [*METRES, POINTER(c_uint8), c_size_t, POINTER(c_size_t)],
     "mk_whole": LENT,
     "mk_journal_begin": [*LENT, *LENT, *LENT],
     "mk_journal_insert": [*LENT, *LENT, c_uint32, c_uint32, c_uint32, *LENT],

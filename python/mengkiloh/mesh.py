@@ -5,7 +5,7 @@ from __future__ import annotations
 import ctypes
 import operator
 from collections.abc import Iterable, Iterator, Sequence
-from ctypes import byref, c_double, c_int16, c_size_t, c_uint32
+from ctypes import byref, c_double, c_int16, c_size_t, c_uint8, c_uint32
 from typing import Any, NamedTuple, Union
 
 from .library import load
@@ -84,6 +84,19 @@ def placed(positions: Positions) -> ctypes.Array:
             raise TypeError(f"positions are signed 16-bit numbers in one piece, not {view.format!r}")
         kind = c_int16 * (view.nbytes // 2)
         return kind.from_buffer_copy(view) if view.readonly else kind.from_buffer(positions)
+
+
+def written(positions: Any) -> ctypes.Array:
+    """Positions that a call writes: an array or a numpy array of signed 16-bit numbers, without a copy."""
+    with memoryview(positions) as view:
+        if view.readonly:
+            raise TypeError("positions are lent to be written: an array or a numpy array of signed 16-bit numbers")
+    return placed(positions)
+
+
+def off_room(marks: int, faces: int) -> int:
+    """The bytes that the longest OFF text of so many marks and faces takes."""
+    return 18 + 21 * number("a count", marks) + 26 * number("a count", faces)
 
 
 def judge(refusal: int, **place: int) -> None:
@@ -319,6 +332,30 @@ class Mesh:
     def _placed(self, name: str, positions: Positions, cell: int, *given: Any) -> None:
         list_ = placed(positions)
         self._ask(name, list_, len(list_), number("a cell", cell), *given)
+
+    # ---- surfaces as plain Geomview OFF text
+
+    def read_off(self, positions: Any, text: bytes) -> None:
+        """Makes the memory the mesh of a text's surface, under edition 1, and writes its metres to the first numbers of positions.
+
+        The first two counts of the text become the capacities, its faces cells 0, 1, 2 in their order. Refused with 17, 1, 2, 16, and at a face as
+        `insert`; the exception's `place` is that of the byte, or of the face, from 0, or 0. A refused face leaves a mesh with no cell, and the
+        positions as they were.
+        """
+        list_, place, bytes_ = written(positions), c_size_t(), bytes(text)
+        refusal = self._call("mk_off_read", list_, len(list_), bytes_, len(bytes_), byref(place))
+        judge(refusal, place=place.value)
+
+    def write_off(self, positions: Positions) -> bytes:
+        """The surface as OFF text: a line for the word, the counts, each mark of the capacity and each live face, ascending.
+
+        Refused with 14, 16, 18 for a live cell that is neither triangle nor quad.
+        """
+        list_, length = placed(positions), c_size_t()
+        room_ = off_room(self.capacities().marks, len(self))
+        out = (c_uint8 * room_)()
+        self._ask("mk_off_write", list_, len(list_), out, room_, byref(length))
+        return bytes(out[: length.value])
 
     def whole(self) -> bool:
         """Whether the memory is a well-formed mesh. It never refuses."""

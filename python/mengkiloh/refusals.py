@@ -1,6 +1,6 @@
 """The refusals: one exception class each, with its number and its meaning.
 
-A refused call changes nothing, save a build that is refused at a record and a list of edits that is stopped.
+A refused call changes nothing, save a build that is refused at a record, a surface at a face, and a list of edits that is stopped.
 """
 
 from __future__ import annotations
@@ -11,15 +11,16 @@ from typing import ClassVar
 class Refused(Exception):
     """A call was refused. `number` says why, `meaning` says it in words.
 
-    `record` is the place of a build's refused record, and `made` how many edits of a list were made before; None for other calls.
+    `record` is the place of a build's refused record, `made` how many edits of a list were made before, and `place` where a surface's text or face
+    is refused; None for other calls.
     """
 
     number: ClassVar[int] = 0
     meaning: ClassVar[str] = ""
 
-    def __init__(self, record: int | None = None, made: int | None = None) -> None:
+    def __init__(self, record: int | None = None, made: int | None = None, place: int | None = None) -> None:
         super().__init__()
-        self.record, self.made = record, made
+        self.record, self.made, self.place = record, made, place
 
     def __str__(self) -> str:
         return f"refused with {self.number}: {self.meaning}"
@@ -103,6 +104,16 @@ class PositionsShort(Refused):
     meaning = "the list of positions is shorter than three numbers for each mark"
 
 
+class OffBroken(Refused):
+    number = 17
+    meaning = "the text is not of OFF's plain form"
+
+
+class NotSurface(Refused):
+    number = 18
+    meaning = "a live cell is neither triangle nor quad"
+
+
 class FaceFull(Refused):
     number = 19
     meaning = "under edition 2, a third solid on a face"
@@ -144,6 +155,8 @@ REFUSALS: dict[int, type[Refused]] = {
     13: FacetOutside,
     14: NotMesh,
     16: PositionsShort,
+    17: OffBroken,
+    18: NotSurface,
     19: FaceFull,
     20: DayBefore,
     21: DayFolded,

@@ -299,6 +299,43 @@ class Lists(unittest.TestCase):
             self.assertEqual(mesh.centre(positions, 0), Point(4 / 3, 1.0, 1 / 3))
 
 
+class Surfaces(unittest.TestCase):
+    def test_read_and_written(self):
+        mesh, positions = Mesh(bytearray(4 * room(4, 2))), array("h", [99] * 14)
+        mesh.read_off(positions, b"OFF 4 2 9\n0 0 0 1 0 -0 -32768 32767 0\n007 1 5\n\n3 0 1 2 4 0 1 2 3")
+        self.assertEqual(positions.tolist(), [0, 0, 0, 1, 0, 0, -32768, 32767, 0, 7, 1, 5, 99, 99])
+        self.assertEqual([mesh.marks_of(cell) for cell in mesh], [[0, 1, 2], [0, 1, 2, 3]])
+        self.assertEqual(mesh.write_off(positions), b"OFF\n4 2 0\n0 0 0\n1 0 0\n-32768 32767 0\n7 1 5\n3 0 1 2\n4 0 1 2 3\n")
+        mesh.remove(0)
+        self.assertEqual(mesh.write_off(positions), b"OFF\n4 1 0\n0 0 0\n1 0 0\n-32768 32767 0\n7 1 5\n4 0 1 2 3\n")
+
+    def test_refused(self):
+        mesh, positions = Mesh(bytearray(4 * room(4, 2))), array("h", [99] * 12)
+        vertices = b"0 0 0 1 0 0 2 0 0 3 0 0 "
+        for number, place, text in (
+            (17, 4, b"OFF +1 0 0"),
+            (17, 9, b"OFF 0 1 0"),
+            (1, 0, b"OFF 0 65536 0" + b" 3 0 1 2" * 65_536),
+            (2, 0, b"OFF 4 3 0 " + vertices + b"3 0 1 2 3 0 1 2 3 0 1 2"),
+            (16, 0, b"OFF 5 0 0 " + vertices + b"0 0 0"),
+            (9, 1, b"OFF 4 2 0 " + vertices + b"3 0 1 2 4 0 1 2 2"),
+        ):
+            with self.assertRaises(refusals.REFUSALS[number]) as caught:
+                mesh.read_off(positions, text)
+            self.assertEqual(caught.exception.place, place)
+            self.assertEqual(positions.tolist(), [99] * 12)
+        self.assertEqual(len(mesh), 0)
+        mesh.insert(1, Type.TETRAHEDRON, [0, 1, 2, 3])
+        with self.assertRaises(mengkiloh.NotSurface):
+            mesh.write_off(positions)
+        with self.assertRaises(mengkiloh.PositionsShort):
+            mesh.write_off(positions[:11])
+        with self.assertRaises(mengkiloh.NotMesh):
+            Mesh(bytearray(60)).write_off(positions)
+        with self.assertRaises(TypeError):
+            mesh.read_off([0] * 12, b"OFF 0 0 0")
+
+
 class Days(unittest.TestCase):
     def test_the_map_on_any_day(self):
         mesh = triangles([0, 1, 2])

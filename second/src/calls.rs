@@ -407,7 +407,7 @@ impl Memory {
 
     /// 14: "memory is under 16 words, or its head gives no capacities or gives
     /// ones whose room does not fit"; or gives an edition that there is not.
-    fn held(&self) -> Result<&Mesh, Refusal> {
+    pub(crate) fn held(&self) -> Result<&Mesh, Refusal> {
         self.mesh
             .as_ref()
             .filter(|mesh| room(mesh.marks, mesh.cells) <= self.words)

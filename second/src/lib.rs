@@ -10,6 +10,7 @@
 //! - [`calls`]: every call, its checks in the listed order, then the answer.
 //! - [`positions`]: points, centres and measures, in whole metres.
 //! - [`cases`]: the outline's cases, with every answer, as text.
+//! - [`off`]: surfaces in and out as OFF text.
 //! - [`journal`]: the map on any day: edits with their days, begun, entered, asked, folded.
 //! - [`frames`]: the frame program, from input bytes to output bytes.
 
@@ -20,6 +21,7 @@ pub mod cases;
 pub mod frames;
 pub mod journal;
 pub mod map;
+pub mod off;
 pub mod positions;
 pub mod refusal;
 pub mod shapes;

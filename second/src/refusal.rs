@@ -22,6 +22,8 @@ pub enum Refusal {
     NotMesh = 14,
     BadFrame = 15,
     PositionsShort = 16,
+    OffBroken = 17,
+    NotSurface = 18,
     FaceFull = 19,
     DayBefore = 20,
     DayFolded = 21,
@@ -31,7 +33,7 @@ pub enum Refusal {
 
 impl Refusal {
     /// All of them, by number.
-    pub const ALL: [Refusal; 21] = [
+    pub const ALL: [Refusal; 23] = [
         Refusal::CapacityAbove,
         Refusal::MemoryShort,
         Refusal::CellOutside,
@@ -48,6 +50,8 @@ impl Refusal {
         Refusal::NotMesh,
         Refusal::BadFrame,
         Refusal::PositionsShort,
+        Refusal::OffBroken,
+        Refusal::NotSurface,
         Refusal::FaceFull,
         Refusal::DayBefore,
         Refusal::DayFolded,
@@ -85,6 +89,10 @@ impl Refusal {
             Refusal::NotMesh => "memory is not a mesh",
             Refusal::BadFrame => "bad frame (program only)",
             Refusal::PositionsShort => "position list shorter than three numbers per mark",
+            Refusal::OffBroken => {
+                "a word that breaks the plain OFF form, or a text that ends early"
+            }
+            Refusal::NotSurface => "a live cell not triangle or quad",
             Refusal::FaceFull => "insert under edition 2: a third solid on a face",
             Refusal::DayBefore => "entry: a day before the last",
             Refusal::DayFolded => "query: a day before the last fold",

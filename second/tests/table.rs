@@ -122,6 +122,8 @@ fn the_refusals_are_the_outlines() {
 14: memory is not a mesh
 15: bad frame (program only)
 16: position list shorter than three numbers per mark
+17: a word that breaks the plain OFF form, or a text that ends early
+18: a live cell not triangle or quad
 19: insert under edition 2: a third solid on a face
 20: entry: a day before the last
 21: query: a day before the last fold

@@ -4,7 +4,7 @@
 
 use std::sync::OnceLock;
 
-use mengkiloh::{room, Cell, Half, Mark, Measure, Mesh, Records, Refusal};
+use mengkiloh::{off_room, room, Cell, Half, Mark, Measure, Mesh, Records, Refusal};
 use second::map::LiveCell;
 use second::positions::float;
 use second::shapes::type_with_code;
@@ -100,6 +100,7 @@ pub enum Question {
     Points(u32),
     Centre(u32),
     Measure(u32),
+    Surface,
 }
 
 const PLENTY: usize = 70_000;
@@ -112,7 +113,7 @@ impl Question {
         let facet = chance.below(7);
         let dimension = chance.below(5);
         let code = chance.below(9);
-        match chance.below(19) {
+        match chance.below(20) {
             0 => Question::Type(cell),
             1 => Question::Marks(cell),
             2 => Question::Neighbours(cell),
@@ -134,6 +135,7 @@ impl Question {
             15 => Question::Capacities,
             16 => Question::Free,
             17 => Question::Live,
+            18 => Question::Surface,
             _ => Question::Count(code),
         }
     }
@@ -187,6 +189,11 @@ impl Question {
                 bits([point.x, point.y, point.z])
             }),
             Question::Measure(c) => ours(mesh.measure(positions(), Cell(c)), measured),
+            Question::Surface => {
+                let (marks, cells) = mesh.capacities().unwrap_or((0, 0));
+                let room = off_room(marks, cells);
+                written(room, |out| mesh.write_off_into(positions(), out))
+            }
         }
     }
 
@@ -242,6 +249,10 @@ impl Question {
                 numbers.extend(bits([float(measure.whole())]));
                 numbers
             }),
+            Question::Surface => match memory.write_off(positions(), usize::MAX) {
+                Ok(text) => (0, text.into_iter().map(u32::from).collect()),
+                Err(number) => (number, Vec::new()),
+            },
         }
     }
 }
@@ -291,6 +302,21 @@ pub fn pointed(room: usize, fill: impl FnOnce(&mut [f64]) -> Result<usize, Refus
         .into_iter()
         .all(|float| float.to_bits() == LEFT.to_bits()));
     ours(answer, |_| bits(out[EDGE..EDGE + given].iter().copied()))
+}
+
+/// The bytes of a text from an output between sentinels: nothing is written but
+/// the text, and nothing at all by a refusal.
+pub fn written(room: usize, fill: impl FnOnce(&mut [u8]) -> Result<usize, Refusal>) -> Said {
+    const EDGE: usize = 8;
+    const LEFT: u8 = 0xa5;
+    let mut out = vec![LEFT; EDGE + room + EDGE];
+    let answer = fill(&mut out[EDGE..EDGE + room]);
+    let given = answer.unwrap_or(0);
+    assert!(given <= room);
+    let rest = out[..EDGE].iter().chain(&out[EDGE + given..]);
+    assert!(rest.into_iter().all(|&byte| byte == LEFT));
+    let text = &out[EDGE..EDGE + given];
+    ours(answer, |_| text.iter().copied().map(u32::from).collect())
 }
 
 /// Positions for as many marks as there can be, by chance, many at an extreme.

@@ -15,6 +15,12 @@ use Rattle.map.specs.declared.Built.the-variants as Built′
 use Rattle.map.specs.declared.Edits.{Edits}
 use Rattle.map.specs.declared.Edits.the-variants as Edits′
 use Rattle.map.proofs.Refusals.{number-some}
+use Rattle.surfaces.specs.ReadsOff.{broken, surfacedSays}
+use Rattle.surfaces.specs.declared.Surfaced.{Surfaced}
+use Rattle.surfaces.specs.declared.Surfaced.the-variants as Surfaced′
+use Rattle.surfaces_out.specs.WritesOff.{writtenSays}
+use Rattle.surfaces_out.specs.declared.Written.{Written}
+use Rattle.surfaces_out.specs.declared.Written.the-variants as Written′
 use Rattle.c_answers.specs.Told.{Told, ToldTwo, ToldFound}
 
 module _ (a : Answer) (x : ℕ) where
@@ -75,3 +81,18 @@ built-refused b x why place r e q = record { number = rw (e, q); value = rw e }
 pub edits-stopped : (e : Edits) (x : ℕ) (why : Refusal) (made r : ℕ) → e ≡ Edits′.Stopped made why → r ≡ numberOf why → Told (editsSays e) x r made
 unfolding editsSays first
 edits-stopped e x why made r q n = record { number = rw (q, n); value = rw q }
+
+-- a refused read has its place
+module _ (s : Surfaced) (x : ℕ) where
+  pub surfaced-broken : (place : ℕ) → s ≡ Surfaced′.Broken place → Told (surfacedSays s) x 17 place
+  unfolding surfacedSays broken first
+  surfaced-broken place e = record { number = rw e; value = rw e }
+
+  pub surfaced-refused : (why : Refusal) (place r : ℕ) → s ≡ Surfaced′.Refused why place → r ≡ numberOf why → Told (surfacedSays s) x r place
+  unfolding surfacedSays first
+  surfaced-refused why place r e q = record { number = rw (e, q); value = rw e }
+
+-- a cell that is no face has no value
+pub written-other : (t : Written) (x : ℕ) → t ≡ Written′.NotSurface → Told (writtenSays t) x 18 x
+unfolding writtenSays first
+written-other t x e = record { number = rw e; value = rw e }

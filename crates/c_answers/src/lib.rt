@@ -1,12 +1,14 @@
 // Each kind of answer as a number and lent words: 0 with the value in its place, or the refusal's number.
 //
-// What is here: a function for each answer enum of crates/map and crates/positions. What is proved: the number is the answer's refusal, and the
-// lent word or float is the answer's value, or as it was where the answer has none (specs/Told.antt, specs/Floats.antt). What a caller should
-// know: a refused build has a value, the place of its record, and a list of edits has one always, the number made; every other answer has one
-// only where it is accepted.
+// What is here: a function for each answer enum of crates/map, crates/positions, crates/surfaces and crates/surfaces_out. What is proved: the
+// number is the answer's refusal, and the lent word or float is the answer's value, or as it was where the answer has none (specs/Told.antt,
+// specs/Floats.antt). What a caller should know: a refused build has a value, the place of its record, a refused read its place, and a list of
+// edits has one always, the number made; every other answer has one only where it is accepted.
 ghost use mathlib.Core.Path.{_≡_};
 ghost use Rattle.map.specs.Says.{numberOf, verdictSays, valueSays, pairSays, cellSays, halfSays, truthSays, builtSays, foundSays, editsSays};
 ghost use Rattle.positions.specs.Replies.{measureSays, centreSays};
+ghost use Rattle.surfaces.specs.ReadsOff.{surfacedSays};
+ghost use Rattle.surfaces_out.specs.WritesOff.{writtenSays};
 ghost use Rattle.c_answers.specs.Told.{Told, ToldTwo, ToldFound};
 ghost use Rattle.c_answers.specs.Floats.{ToldMeasure, ToldPoint};
 use map::Built;
@@ -23,6 +25,8 @@ use map::number_of;
 use map::way_number;
 use positions::Centred;
 use positions::Measured;
+use surfaces::Surfaced;
+use surfaces_out::Written;
 
 // The number of a refusal in a byte.
 pub fn byte_of(why: Refusal) -> u8
@@ -200,5 +204,42 @@ pub fn tell_centre(c: Centred, x: &mut f64, y: &mut f64, z: &mut f64) -> u8
             *z = point.z;
             0
         }
+    }
+}
+
+// "17 .. with the byte place of the first word that breaks this form, or the length of a text that ends early"
+const OFF_BROKEN: u8 = 17;
+
+// "18 for a live cell not triangle or quad"
+const NOT_SURFACE: u8 = 18;
+
+// A surface read, or the place where the text or a face is refused.
+pub fn tell_surfaced(s: Surfaced, x: &mut usize) -> u8
+    ensures { λ r. ⌜ Told (surfacedSays s) (now (x .entry)) r (now (x .exit)) ⌝ }
+{
+    match s {
+        Surfaced::Accepted => 0,
+        Surfaced::Broken(byte) => {
+            *x = byte;
+            OFF_BROKEN
+        }
+        Surfaced::Refused(why, face) => {
+            *x = face as usize;
+            byte_of(why)
+        }
+    }
+}
+
+// The bytes of a text that is written.
+pub fn tell_written(t: Written, x: &mut usize) -> u8
+    ensures { λ r. ⌜ Told (writtenSays t) (now (x .entry)) r (now (x .exit)) ⌝ }
+{
+    match t {
+        Written::Length(bytes) => {
+            *x = bytes;
+            0
+        }
+        Written::NotSurface => NOT_SURFACE,
+        Written::Refused(why) => byte_of(why),
     }
 }

@@ -5,4 +5,5 @@ pub mod Places
 pub mod Edits
 pub mod Mornings
 pub mod Placed
+pub mod Surfaces
 pub mod Journals

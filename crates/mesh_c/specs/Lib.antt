@@ -2,5 +2,6 @@ pub mod Answered
 pub mod Changed
 pub mod Mornings
 pub mod Placed
+pub mod Surfaces
 pub mod Journals
 pub mod Version

@@ -2,9 +2,9 @@
 //
 // What is here: a function for each public call, under its plain name, none with a `requires`. Each answers the refusal's number, 0 for
 // accepted, and gives its values through lent words. What is proved: the promise of the call it stands for, told by numbers; a refusal
-// leaves what was lent as it was, on any memory (specs/Answered.antt, specs/Changed.antt, specs/Placed.antt, specs/Journals.antt). What a
-// caller should know: a list is a pointer and a count of 32-bit words (of positions 16-bit numbers, of points 64-bit floats), aligned to their
-// size; what a call writes may not overlap anything else that is lent to it.
+// leaves what was lent as it was, on any memory (specs/Answered.antt, specs/Changed.antt, specs/Placed.antt, specs/Surfaces.antt,
+// specs/Journals.antt). What a caller should know: a list is a pointer and a count of 32-bit words (of positions 16-bit numbers, of points
+// 64-bit floats, of text bytes), aligned to their size; what a call writes may not overlap anything else that is lent to it.
 ghost use mathlib.Core.Path.{_≡_};
 ghost use Rattle.numbers.specs.Half.{halfOf};
 ghost use Rattle.numbers.specs.Sizes.{capsUnder, capacities};
@@ -25,6 +25,7 @@ ghost use Rattle.mesh_c.specs.Changed.{Emptied, Raised, Changed};
 ghost use Rattle.mesh_c.specs.Journals.{ByNumber, ByBit};
 ghost use Rattle.mesh_c.specs.Mornings.{EditsTold};
 ghost use Rattle.mesh_c.specs.Placed.{Sized, Centre, Corners};
+ghost use Rattle.mesh_c.specs.Surfaces.{SurfaceRead, SurfaceWritten};
 ghost use Rattle.mesh_c.specs.Version.{version};
 use ask::border;
 use ask::count_of_type;
@@ -43,9 +44,11 @@ use c_answers::tell_found;
 use c_answers::tell_half;
 use c_answers::tell_measure;
 use c_answers::tell_pair;
+use c_answers::tell_surfaced;
 use c_answers::tell_truth;
 use c_answers::tell_value;
 use c_answers::tell_verdict;
+use c_answers::tell_written;
 use edits::Tally;
 use edits::make_edits;
 use edits::tallied;
@@ -75,6 +78,8 @@ use shapes::mark_count;
 use store::Opened;
 use store::marks_place;
 use store::open;
+use surfaces::read_off;
+use surfaces_out::write_off;
 use whole::whole;
 use year::fold;
 use year::map_on;
@@ -343,7 +348,7 @@ pub extern "C" fn mk_live(mesh: &[u32], out: &mut [u32], count: &mut u32) -> u8
 pub extern "C" fn mk_version() -> u32
     ensures { λ r. ⌜ r ≡ version ⌝ }
 {
-    0x040300
+    0x040400
 }
 
 // The corners of a cell as points, three floats each.
@@ -387,6 +392,32 @@ pub extern "C" fn mk_measure(
     ensures { λ r. ⌜ Sized (now (mesh .entry)) (λ m. measureReply m (now (positions .entry)) cell) (now (kind .entry)) (now (size .entry)) r (now (kind .exit)) (now (size .exit)) ⌝ }
 {
     tell_measure(measure(mesh, positions, Cell(cell)), kind, size)
+}
+
+// A surface of OFF text, read into mesh and positions; where it is refused, the place of the text or of the face.
+#[no_mangle]
+pub extern "C" fn mk_off_read(
+    mesh: &mut [u32],
+    positions: &mut [i16],
+    text: &[u8],
+    place: &mut usize,
+) -> u8
+    ensures { λ r. ⌜ SurfaceRead (now (mesh .entry)) (now (positions .entry)) (now (text .entry)) (now (place .entry)) r (now (mesh .exit)) (now (positions .exit)) (now (place .exit)) ⌝ }
+{
+    tell_surfaced(read_off(mesh, positions, text), place)
+}
+
+// The surface of mesh and positions, written as OFF text, and the bytes of it.
+#[no_mangle]
+pub extern "C" fn mk_off_write(
+    mesh: &[u32],
+    positions: &[i16],
+    out: &mut [u8],
+    length: &mut usize,
+) -> u8
+    ensures { λ r. ⌜ SurfaceWritten (now (mesh .entry)) (now (positions .entry)) (now (out .entry)) (now (length .entry)) r (now (out .exit)) (now (length .exit)) ⌝ }
+{
+    tell_written(write_off(mesh, positions, out), length)
 }
 
 // The whole check: 1 for yes, 0 for no.

@@ -1,0 +1,4 @@
+-- The laws of writing a surface.
+pub mod Marked
+pub mod Listed
+pub mod Answered

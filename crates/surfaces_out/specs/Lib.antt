@@ -1,0 +1,2 @@
+pub mod WritesOff
+pub mod InMemory
