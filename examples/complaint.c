@@ -1,6 +1,6 @@
 /* A complaint, start to end, from C: a viaduct over a hillside, the cells around a mark, one removed, the cells again;
- * their measures; a morning's edits in one call; the same complaint for earlier days; and solids under the second
- * edition.
+ * their measures; a morning's edits in one call; solids under the second edition; the same mark on earlier days; and the
+ * licences to ask, of the day before a cell was removed and of the day after.
  *
  *     cc -Itarget/mengkiloh examples/complaint.c target/mengkiloh/libmengkiloh.a -o complaint
  */
@@ -22,9 +22,9 @@ static void must(uint8_t refusal)
     }
 }
 
-static void insert(uint32_t cell, uint32_t type, const uint32_t *marks, size_t count)
+static void insert(uint32_t cell, uint32_t type, uint32_t licence, const uint32_t *marks, size_t count)
 {
-    must(mk_insert(words, MK_ROOM(MARKS, CELLS), cell, type, marks, count));
+    must(mk_insert_licensed(words, MK_ROOM(MARKS, CELLS), cell, type, licence, marks, count));
 }
 
 static void tell(const uint32_t *map, uint32_t mark)
@@ -36,6 +36,12 @@ static void tell(const uint32_t *map, uint32_t mark)
         printf("mark %" PRIu32 ", dimension %" PRIu32 ": cells [", mark, dimension);
         for (uint32_t i = 0; i < count; i++) {
             printf("%s%" PRIu32, i == 0 ? "" : ", ", list[i]);
+        }
+        printf("], licences [");
+        for (uint32_t i = 0; i < count; i++) {
+            uint32_t licence = 0;
+            must(mk_licence(map, MK_ROOM(MARKS, CELLS), list[i], &licence));
+            printf("%s%" PRIu32, i == 0 ? "" : ", ", licence);
         }
         printf("]\n");
     }
@@ -68,7 +74,7 @@ static void survey(uint32_t cell)
 /* a morning's edits; the third is refused, and the fourth not made */
 static void morning(void)
 {
-    static const uint32_t edits[] = {MK_REMOVE, 2, MK_INSERT, 6, MK_BAR_2, 0, 8, MK_REMOVE, 2, MK_REMOVE, 0};
+    static const uint32_t edits[] = {MK_REMOVE, 2, MK_INSERT, 6, MK_BAR_2, 0, 0, 8, MK_REMOVE, 2, MK_REMOVE, 0};
     uint32_t tally[] = {0, 0};
     size_t made = 0;
     uint8_t refusal = mk_edits(words, MK_ROOM(MARKS, CELLS), edits, sizeof edits / sizeof edits[0], tally, &made);
@@ -78,30 +84,6 @@ static void morning(void)
         printf("%zu edits made, then %d\n", made, refusal);
     }
     printf("%" PRIu32 " accepted, %" PRIu32 " refused\n", tally[0], tally[1]);
-}
-
-/* from here on the map is edited through a journal: the same complaint for earlier days */
-static void days(void)
-{
-    static uint32_t journal[MK_JOURNAL_WORDS(1000)];
-    static uint32_t start[MK_ROOM(MARKS, CELLS)];
-    static uint32_t then[MK_ROOM(MARKS, CELLS)];
-    static const uint32_t asked[] = {99, 129, 130};
-    const size_t room = MK_ROOM(MARKS, CELLS), size = MK_JOURNAL_WORDS(1000);
-    must(mk_journal_begin(words, room, journal, size, start, room));
-    must(mk_journal_insert(words, room, journal, size, 100, 1, MK_TRI_3, (const uint32_t[]){1, 3, 2}, 3));
-    must(mk_journal_remove(words, room, journal, size, 130, 3));
-    for (size_t i = 0; i < sizeof asked / sizeof asked[0]; i++) {
-        must(mk_journal_on(journal, size, start, room, asked[i], then, room));
-        printf("on day %" PRIu32 "\n", asked[i]);
-        tell(then, 2);
-    }
-    uint8_t refusal = mk_journal_fold(journal, size, start, room, 100);
-    if (refusal == 0) {
-        printf("day 100 is folded\n");
-    } else {
-        printf("a fold is refused with %d\n", refusal);
-    }
 }
 
 /* under the second edition a face lies between two solids at most */
@@ -123,14 +105,49 @@ static void harbour(void)
     }
 }
 
+/* from here on the map is edited through a journal: the same mark on earlier days */
+static void days(void)
+{
+    static uint32_t journal[MK_JOURNAL_WORDS(1000)];
+    static uint32_t start[MK_ROOM(MARKS, CELLS)];
+    static uint32_t then[MK_ROOM(MARKS, CELLS)];
+    static const uint32_t asked[] = {99, 129, 130};
+    const size_t room = MK_ROOM(MARKS, CELLS), size = MK_JOURNAL_WORDS(1000);
+    must(mk_journal_begin(words, room, journal, size, start, room));
+    must(mk_journal_insert(words, room, journal, size, 100, 1, MK_TRI_3, 12, (const uint32_t[]){1, 3, 2}, 3));
+    must(mk_journal_remove(words, room, journal, size, 130, 3));
+    for (size_t i = 0; i < sizeof asked / sizeof asked[0]; i++) {
+        must(mk_journal_on(journal, size, start, room, asked[i], then, room));
+        printf("on day %" PRIu32 "\n", asked[i]);
+        tell(then, 2);
+    }
+    uint8_t refusal = mk_journal_fold(journal, size, start, room, 100);
+    if (refusal == 0) {
+        printf("day 100 is folded\n");
+    } else {
+        printf("a fold is refused with %d\n", refusal);
+    }
+    /* whom to ask for a complaint at mark 2: the day before the deck was taken down, and the day after */
+    uint32_t licences[LONGEST_LIST];
+    uint32_t count = 0;
+    for (uint32_t day = 129; day <= 131; day += 2) {
+        must(mk_licences(journal, size, start, room, day, 2, then, room, licences, LONGEST_LIST, &count));
+        printf("mark 2 on day %" PRIu32 ": ask the licences [", day);
+        for (uint32_t i = 0; i < count; i++) {
+            printf("%s%" PRIu32, i == 0 ? "" : ", ", licences[i]);
+        }
+        printf("]\n");
+    }
+}
+
 int main(void)
 {
     must(mk_format(words, MK_ROOM(MARKS, CELLS), MARKS, CELLS));
-    insert(0, MK_TRI_3, (const uint32_t[]){0, 1, 2}, 3);
-    insert(1, MK_TRI_3, (const uint32_t[]){1, 3, 2}, 3);
-    insert(2, MK_TRI_3, (const uint32_t[]){2, 4, 5}, 3);
-    insert(3, MK_QUAD_4, (const uint32_t[]){1, 2, 6, 7}, 4);
-    insert(4, MK_BAR_2, (const uint32_t[]){2, 8}, 2);
+    insert(0, MK_TRI_3, 12, (const uint32_t[]){0, 1, 2}, 3);
+    insert(1, MK_TRI_3, 12, (const uint32_t[]){1, 3, 2}, 3);
+    insert(2, MK_TRI_3, 31, (const uint32_t[]){2, 4, 5}, 3);
+    insert(3, MK_QUAD_4, 77, (const uint32_t[]){1, 2, 6, 7}, 4);
+    insert(4, MK_BAR_2, 0, (const uint32_t[]){2, 8}, 2);
 
     tell(words, 2);
     printf("cell 1 is taken down\n");
@@ -147,7 +164,7 @@ int main(void)
     survey(3);
     survey(4);
     morning();
-    days();
     harbour();
+    days();
     return 0;
 }

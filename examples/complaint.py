@@ -1,7 +1,8 @@
 #!/usr/bin/env python3
 """A complaint, start to end, from Python: a viaduct over a hillside, the cells
 around a mark, one removed, the cells again; their measures; a morning's edits in
-one call; the same complaint for earlier days; and solids under the second edition.
+one call; solids under the second edition; the same mark on earlier days; and the
+licences to ask, of the day before a cell was removed and of the day after.
 
     PYTHONPATH=python python3 examples/complaint.py
 """
@@ -21,7 +22,9 @@ POSITIONS = array(
 
 def tell(mesh, mark):
     for dimension in (1, 2, 3):
-        print(f"mark {mark}, dimension {dimension}: cells {mesh.star(dimension, mark)}")
+        cells = mesh.star(dimension, mark)
+        licences = [mesh.licence_of(cell) for cell in cells]
+        print(f"mark {mark}, dimension {dimension}: cells {cells}, licences {licences}")
     for cell, facet in mesh.anchors(2, mark):
         print(f"a sheet begins at cell {cell}, facet {facet}")
     # round the edge of marks 1 and 2, and whether each two agree in direction
@@ -33,10 +36,11 @@ def main():
     # a hillside of two sheets that touch in mark 2, and over it a viaduct: a
     # deck on the edge of marks 1 and 2, which then has three cells
     mesh = Mesh.with_room(9, 8)
-    mesh.insert(0, Type.TRIANGLE, [0, 1, 2])
-    mesh.insert(1, Type.TRIANGLE, [1, 3, 2])
-    mesh.insert(2, Type.TRIANGLE, [2, 4, 5])
-    mesh.insert(3, Type.QUAD, [1, 2, 6, 7])
+    hill, far_side, bridge = 12, 31, 77
+    mesh.insert(0, Type.TRIANGLE, [0, 1, 2], hill)
+    mesh.insert(1, Type.TRIANGLE, [1, 3, 2], hill)
+    mesh.insert(2, Type.TRIANGLE, [2, 4, 5], far_side)
+    mesh.insert(3, Type.QUAD, [1, 2, 6, 7], bridge)
     mesh.insert(4, Type.BAR, [2, 8])
 
     tell(mesh, 2)
@@ -64,19 +68,6 @@ def main():
         print(f"{refused.made} edits made, then {refused.number}")
     print(f"{tally.accepted} accepted, {tally.refused} refused")
 
-    # from here on the map is edited through a journal: the same complaint for earlier days
-    journal = Journal.begin(mesh, edits=1000)
-    journal.insert(100, 1, Type.TRIANGLE, [1, 3, 2])
-    journal.remove(130, 3)
-    for day in (99, 129, 130):
-        print(f"on day {day}")
-        tell(journal.on(day), 2)
-    try:
-        journal.fold(100)
-        print("day 100 is folded")
-    except Refused as refused:
-        print(f"a fold is refused with {refused.number}")
-
     # under the second edition a face lies between two solids at most
     harbour = Mesh.with_room(6, 4, Edition.SECOND)
     harbour.insert(0, Type.TETRAHEDRON, [0, 1, 2, 3])
@@ -87,6 +78,23 @@ def main():
         print("three solids on a face")
     except Refused as refused:
         print(f"a third solid is refused with {refused.number}")
+
+    # from here on the map is edited through a journal: the same mark on earlier days
+    journal = Journal.begin(mesh, edits=1000)
+    journal.insert(100, 1, Type.TRIANGLE, [1, 3, 2], hill)
+    journal.remove(130, 3)
+    for day in (99, 129, 130):
+        print(f"on day {day}")
+        tell(journal.on(day), 2)
+    try:
+        journal.fold(100)
+        print("day 100 is folded")
+    except Refused as refused:
+        print(f"a fold is refused with {refused.number}")
+
+    # whom to ask for a complaint at mark 2: the day before the deck was taken down, and the day after
+    for day in (129, 131):
+        print(f"mark 2 on day {day}: ask the licences {journal.licences(day, 2)}")
 
 
 if __name__ == "__main__":

@@ -22,7 +22,7 @@
  * Every call but mk_version and the two whole checks answers a refusal number: 0 if it is accepted, else
  * why it is refused (enum mk_refusal; mk_meaning says it in words). Values come through pointers, and only
  * where the call is accepted: a refused call leaves everything that was lent as it was. The exceptions are
- * builds, mk_off_read and mk_edits.
+ * builds, mk_off_read, mk_edits and mk_licences.
  *
  * A list is a pointer and a count of 32-bit words, of positions one of 16-bit numbers, of points one
  * of 64-bit floats, of text one of bytes. A list's pointer and the pointer of a single number are aligned to the size of
@@ -48,10 +48,10 @@ extern "C" {
 #endif
 
 /*
- * The version that this header is of, 4.4.0: major, minor and patch, a byte each; and the version of
+ * The version that this header is of, 5.0.0: major, minor and patch, a byte each; and the version of
  * the library that is linked.
  */
-#define MK_VERSION 0x040400u
+#define MK_VERSION 0x050000u
 uint32_t mk_version(void);
 
 /* Why a call is refused. Checks run in the order that each call lists. */
@@ -189,10 +189,10 @@ uint8_t mk_format_edition(uint32_t *mesh, size_t words, uint32_t marks, uint32_t
 
 /*
  * Build: format under edition 1, then the records inserted in order. A record is a cell number, a type
- * code, then that type's marks; count is the count of words of all records. Refused with 1, 2, and at a
- * record with 7 for a missing number or code, then 3, 4, 6, 7, 8, 9, 10, 11. place is written on a
- * refusal only: the place of the refused record, from 0. Refusals 1 and 2 come with place 0 and leave the
- * mesh as it was; a refused record leaves a formatted mesh with no live cell.
+ * code, a licence, then that type's marks; count is the count of words of all records. Refused with 1, 2,
+ * and at a record with 7 for a missing number, code or licence, then 3, 4, 6, 7, 8, 9, 10, 11. place is
+ * written on a refusal only: the place of the refused record, from 0. Refusals 1 and 2 come with place 0
+ * and leave the mesh as it was; a refused record leaves a formatted mesh with no live cell.
  */
 uint8_t mk_build(uint32_t *mesh, size_t words, uint32_t marks, uint32_t cells, const uint32_t *records,
                  size_t count, uint32_t *place);
@@ -222,11 +222,18 @@ uint8_t mk_capacities(const uint32_t *mesh, size_t words, uint32_t *marks, uint3
 uint8_t mk_free(const uint32_t *mesh, size_t words, uint32_t *found, uint32_t *cell);
 
 /*
- * Insert: a cell of the caller's number, of a type code, on count marks. Refused with 14, 3, 4, 6, 7,
- * 8, 9, 10, under edition 2 with 19, 11.
+ * Insert: a cell of the caller's number, of a type code, on count marks, without a licence: its licence
+ * is 0. Refused with 14, 3, 4, 6, 7, 8, 9, 10, under edition 2 with 19, 11.
  */
 uint8_t mk_insert(uint32_t *mesh, size_t words, uint32_t cell, uint32_t type, const uint32_t *marks,
                   size_t count);
+
+/*
+ * Insert with a licence, any 32-bit number: as mk_insert. No check looks at it, and any number of cells may
+ * have the same.
+ */
+uint8_t mk_insert_licensed(uint32_t *mesh, size_t words, uint32_t cell, uint32_t type, uint32_t licence,
+                           const uint32_t *marks, size_t count);
 
 /* Remove: the cell of that number taken out. Refused with 14, 3, 5. */
 uint8_t mk_remove(uint32_t *mesh, size_t words, uint32_t cell);
@@ -243,8 +250,8 @@ enum mk_kind {
  * were made. tally is two words, of accepted and of refused edits: as many as were made are added to the
  * first and, where the list is stopped, one to the second; a count at 4294967295 stays there. No answer
  * depends on the tally. Refused with 14, for an empty list too, where made is 0; at an edit's turn with 6
- * for another kind, then 7 for a missing number or type, then as mk_insert or mk_remove, where missing
- * marks are 7.
+ * for another kind, then 7 for a missing number, type or licence, then as mk_insert or mk_remove, where
+ * missing marks are 7.
  */
 uint8_t mk_edits(uint32_t *mesh, size_t words, const uint32_t *edits, size_t count, uint32_t *tally,
                  size_t *made);
@@ -253,6 +260,11 @@ uint8_t mk_edits(uint32_t *mesh, size_t words, const uint32_t *edits, size_t cou
  * Type: the type code of a cell. Refused with 14, 3, 5.
  */
 uint8_t mk_type(const uint32_t *mesh, size_t words, uint32_t cell, uint32_t *type);
+
+/*
+ * Licence: the licence of a cell, 0 if it was inserted without one. Refused with 14, 3, 5.
+ */
+uint8_t mk_licence(const uint32_t *mesh, size_t words, uint32_t cell, uint32_t *licence);
 
 /*
  * Marks: the marks of a cell are mesh[*at] to mesh[*at + *count - 1], in the order given at insertion.
@@ -417,9 +429,9 @@ uint8_t mk_whole(const uint32_t *mesh, size_t words);
  * MK_NOT_MESH comes first in each call: for a mesh or a starting map that is none, for a journal that is
  * none, and for a journal of other capacities or another edition. It never comes for memory that these
  * calls alone have written since the journal began. What a call answers, and what it writes, is promised
- * for such memory, and by mk_journal_on and mk_journal_fold for all that mk_journal_whole says yes to. On any
- * other words a call is safe and returns, leaves what was lent as it was where it is refused, and writes
- * within a mesh's room and within the journal's edits alone.
+ * for such memory, and by mk_journal_on, mk_licences and mk_journal_fold for all that mk_journal_whole says
+ * yes to. On any other words a call is safe and returns, leaves what was lent as it was where it is refused
+ * (mk_licences but for second's room), and writes within a mesh's room and within the journal's edits alone.
  */
 
 /* The words that a journal of so many edits takes: a head of 16, then 16 an edit, as many as fit. */
@@ -434,11 +446,11 @@ uint8_t mk_journal_begin(const uint32_t *mesh, size_t words, uint32_t *journal, 
                          uint32_t *start, size_t start_words);
 
 /*
- * Insert on a day: as mk_insert, and the edit entered. Refused with 14, 1 for a day above 65,535, 20 for a
- * day before that of the last edit, then as mk_insert, 23 for a full journal.
+ * Insert on a day: as mk_insert_licensed, and the edit entered. Refused with 14, 1 for a day above 65,535,
+ * 20 for a day before that of the last edit, then as mk_insert, 23 for a full journal.
  */
 uint8_t mk_journal_insert(uint32_t *mesh, size_t words, uint32_t *journal, size_t journal_words, uint32_t day,
-                          uint32_t cell, uint32_t type, const uint32_t *marks, size_t count);
+                          uint32_t cell, uint32_t type, uint32_t licence, const uint32_t *marks, size_t count);
 
 /*
  * Remove on a day: as mk_remove, and the edit entered. Refused with 14, 1, 20, then as mk_remove, 23.
@@ -453,6 +465,18 @@ uint8_t mk_journal_remove(uint32_t *mesh, size_t words, uint32_t *journal, size_
  */
 uint8_t mk_journal_on(const uint32_t *journal, size_t journal_words, const uint32_t *start, size_t start_words,
                       uint32_t day, uint32_t *second, size_t second_words);
+
+/*
+ * The licences to ask for a complaint: for a mark and a day the licences of all cells then around the
+ * mark, of every dimension, ascending, each once, 0 left out, in the first places of out, and how many in
+ * count; 128 places hold every list. That day's mesh stands in second, as mk_journal_on leaves it. Refused
+ * with 14, 21, 2, 8 for a mark that is not below the capacity, 12 for a list longer than the room. A
+ * refusal leaves out and count as they were; 12 leaves that day's mesh in second, the others leave second
+ * as it was.
+ */
+uint8_t mk_licences(const uint32_t *journal, size_t journal_words, const uint32_t *start, size_t start_words,
+                    uint32_t day, uint32_t mark, uint32_t *second, size_t second_words, uint32_t *out, size_t room,
+                    uint32_t *count);
 
 /*
  * Fold: the edits up to that day are made in the starting map, and their room in the journal is free again.

@@ -4,14 +4,14 @@
 
 use crate::clock::{best, busy};
 use crate::maps::{triangles, Body, Chance, Map};
-use mengkiloh::{journal_words, room, Cell, Journal, Mesh};
+use mengkiloh::{journal_words, room, Cell, Journal, Licence, Mesh};
 use std::hint::black_box;
 
 const ROUNDS: usize = 5;
 const CELLS: usize = 10_000;
 const EDITS: [usize; 2] = [1_000, 50_000];
 /// Edits a day.
-const A_DAY: usize = 300;
+pub const A_DAY: usize = 300;
 
 /// Nanoseconds: a plain edit, an entry, a query for the day before the first edit,
 /// one for the last day, the whole check of the journal.
@@ -71,7 +71,7 @@ fn measured(map: &Map, edits: usize) -> Figures {
                 let Body { code, marks } = map.body(cell);
                 let day = 1 + (k / A_DAY) as u32;
                 let answer = match comes {
-                    true => journal.insert(&mut mesh, day, cell, *code, marks),
+                    true => journal.insert(&mut mesh, day, cell, *code, Licence(0), marks),
                     false => journal.remove(&mut mesh, day, cell),
                 };
                 answer.expect("the edit is accepted");
@@ -88,7 +88,7 @@ fn measured(map: &Map, edits: usize) -> Figures {
 }
 
 /// Removals and insertions mixed at random; the cells are all live before.
-fn mixed(map: &Map, edits: usize) -> Vec<(Cell, bool)> {
+pub fn mixed(map: &Map, edits: usize) -> Vec<(Cell, bool)> {
     let mut chance = Chance::new(9);
     let mut live: Vec<u32> = (0..map.cells.len() as u32).collect();
     let mut gone = Vec::new();

@@ -1,10 +1,11 @@
 //! Nanoseconds a call: the proved library beside a plain-Rust hash map of
 //! facet sets, in one run on one machine; with `switchboard` and files of surfaces,
 //! what request 11 asks; with `once` and the name of a map, its edits made once, to be
-//! counted from outside; with `journal`, the map on any day; with `off` and files of
-//! surfaces, surfaces read and written.
+//! counted from outside; with `journal`, the map on any day; with `complaint`, the
+//! licences to ask; with `off` and files of surfaces, surfaces read and written.
 
 mod clock;
+mod complaint;
 mod facet_map;
 mod facet_sets;
 mod journal;
@@ -39,6 +40,7 @@ fn main() {
         Some((word, files)) if word == "switchboard" => switchboard::run(files),
         Some((word, names)) if word == "once" => switchboard::once(names),
         Some((word, _)) if word == "journal" => journal::run(),
+        Some((word, _)) if word == "complaint" => complaint::run(),
         Some((word, files)) if word == "off" => {
             if let Err(why) = off::run(files) {
                 eprintln!("{why}");

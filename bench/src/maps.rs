@@ -1,6 +1,6 @@
 //! The maps that are measured.
 
-use mengkiloh::{Cell, Mark, Records};
+use mengkiloh::{Cell, Licence, Mark, Records};
 use std::collections::VecDeque;
 
 /// What a cell is: its type's code and its marks.
@@ -29,7 +29,7 @@ impl Map {
     pub fn records(&self) -> Records {
         let mut records = Records::new();
         for (cell, Body { code, marks }) in self.numbered() {
-            records.add(cell, *code, marks);
+            records.add(cell, *code, Licence(0), marks);
         }
         records
     }

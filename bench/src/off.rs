@@ -4,7 +4,7 @@
 
 use crate::clock::{best, busy};
 use crate::maps::triangles;
-use mengkiloh::{off_room, room, Mesh, OffError, Records, Refusal, Surface};
+use mengkiloh::{off_room, room, Licence, Mesh, OffError, Records, Refusal, Surface};
 use std::hint::black_box;
 
 const ROUNDS: usize = 5;
@@ -75,7 +75,12 @@ fn measured(text: &[u8]) -> Result<Column, OffError> {
     let mut records = Records::new();
     for cell in mesh.live().map_err(refused)? {
         let code = mesh.type_of(cell).map_err(refused)?;
-        records.add(cell, code, mesh.marks_of(cell).map_err(refused)?);
+        records.add(
+            cell,
+            code,
+            Licence(0),
+            mesh.marks_of(cell).map_err(refused)?,
+        );
     }
     let mut out = vec![0; off_room(marks, cells)];
     let mut costs = [f64::INFINITY; 3];

@@ -46,6 +46,15 @@ extern "C" {
         marks: *const u32,
         count: usize,
     ) -> u8;
+    pub fn mk_insert_licensed(
+        mesh: *mut u32,
+        words: usize,
+        cell: u32,
+        code: u32,
+        licence: u32,
+        marks: *const u32,
+        count: usize,
+    ) -> u8;
     pub fn mk_remove(mesh: *mut u32, words: usize, cell: u32) -> u8;
     pub fn mk_edits(
         mesh: *mut u32,
@@ -56,6 +65,7 @@ extern "C" {
         made: *mut usize,
     ) -> u8;
     pub fn mk_type(mesh: *const u32, words: usize, cell: u32, code: *mut u32) -> u8;
+    pub fn mk_licence(mesh: *const u32, words: usize, cell: u32, licence: *mut u32) -> u8;
     pub fn mk_marks(mesh: *const u32, words: usize, cell: u32, at: *mut u32, count: *mut u32)
         -> u8;
     pub fn mk_sibling(
@@ -193,6 +203,7 @@ extern "C" {
         day: u32,
         cell: u32,
         code: u32,
+        licence: u32,
         marks: *const u32,
         count: usize,
     ) -> u8;
@@ -212,6 +223,19 @@ extern "C" {
         day: u32,
         second: *mut u32,
         second_words: usize,
+    ) -> u8;
+    pub fn mk_licences(
+        journal: *const u32,
+        journal_words: usize,
+        start: *const u32,
+        start_words: usize,
+        day: u32,
+        mark: u32,
+        second: *mut u32,
+        second_words: usize,
+        out: *mut u32,
+        room: usize,
+        count: *mut u32,
     ) -> u8;
     pub fn mk_journal_fold(
         journal: *mut u32,

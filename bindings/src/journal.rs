@@ -1,6 +1,6 @@
 //! The map on any day: a journal of the edits beside the mesh.
 
-use crate::{calls, numbers, Cell, Mark, Mesh, Refusal};
+use crate::{calls, listed, numbers, Cell, Licence, Mark, Mesh, Refusal, MOST_AROUND};
 
 /// The words of a journal's head, and of each edit behind it.
 const HEAD_WORDS: usize = 16;
@@ -16,17 +16,20 @@ pub const fn journal_words(edits: usize) -> usize {
 /// edited through it alone.
 ///
 /// ```
-/// # use mengkiloh::{journal_words, room, Cell, Journal, Mark, Mesh, Refusal, Type};
+/// # use mengkiloh::{journal_words, room, Cell, Journal, Licence, Mark, Mesh, Refusal, Type};
 /// # fn main() -> Result<(), mengkiloh::Refusal> {
 /// let mut map = Mesh::with_room(6, 4)?;
 /// let mut journal = Journal::over(vec![0; journal_words(1_000)], vec![0; room(6, 4)]);
 /// journal.begin(&map)?;
-/// journal.insert(&mut map, 100, Cell(0), Type::Triangle, &[0, 1, 2].map(Mark))?;
+/// let marks = [0, 1, 2].map(Mark);
+/// journal.insert(&mut map, 100, Cell(0), Type::Triangle, Licence(7), &marks)?;
 /// journal.remove(&mut map, 130, Cell(0))?;
 ///
 /// let mut then = Mesh::with_room(6, 4)?;
 /// journal.on(129, &mut then)?;
 /// assert_eq!(then.star(2, Mark(1))?, [Cell(0)]);
+/// assert_eq!(then.licence(Cell(0))?, Licence(7));
+/// assert_eq!(journal.licences(129, Mark(1), &mut then)?, [Licence(7)]);
 /// journal.on(130, &mut then)?;
 /// assert_eq!(then.star(2, Mark(1))?, []);
 /// assert_eq!(journal.remove(&mut map, 129, Cell(0)), Err(Refusal::DayBefore));
@@ -100,7 +103,7 @@ impl<J: AsMut<[u32]>, S: AsMut<[u32]>> Journal<J, S> {
 }
 
 impl<J: AsMut<[u32]>, S> Journal<J, S> {
-    /// Inserts a cell on a day, and enters the edit.
+    /// Inserts a cell with a licence on a day, and enters the edit.
     ///
     /// # Errors
     ///
@@ -113,6 +116,7 @@ impl<J: AsMut<[u32]>, S> Journal<J, S> {
         day: u32,
         cell: Cell,
         code: impl Into<u32>,
+        licence: Licence,
         marks: &[Mark],
     ) -> Result<(), Refusal> {
         let (words, journal) = (mesh.words.as_mut(), self.journal.as_mut());
@@ -126,6 +130,7 @@ impl<J: AsMut<[u32]>, S> Journal<J, S> {
                 day,
                 cell.0,
                 code.into(),
+                licence.0,
                 marks.as_ptr(),
                 marks.len(),
             )
@@ -191,6 +196,59 @@ impl<J: AsRef<[u32]>, S: AsRef<[u32]>> Journal<J, S> {
                 second.len(),
             )
         })
+    }
+
+    /// The licences to ask for a complaint: of all cells that are around the mark on
+    /// that day, of every dimension, ascending, each once, 0 left out. The words of
+    /// `second` are made that day's mesh, as by [`on`](Journal::on).
+    ///
+    /// # Errors
+    ///
+    /// [`Refusal::NotMesh`], [`Refusal::DayFolded`], [`Refusal::MemoryShort`],
+    /// [`Refusal::MarkOutside`]. The first that fits, in this order.
+    pub fn licences<W: AsMut<[u32]>>(
+        &self,
+        day: u32,
+        mark: Mark,
+        second: &mut Mesh<W>,
+    ) -> Result<Vec<Licence>, Refusal> {
+        listed(MOST_AROUND, |out| {
+            self.licences_into(day, mark, second, out)
+        })
+    }
+
+    /// The licences in the first places of `out`; how many they are.
+    ///
+    /// # Errors
+    ///
+    /// As [`licences`](Journal::licences), then [`Refusal::OutputShort`], which
+    /// leaves that day's mesh in `second`, and `out` as it was.
+    pub fn licences_into<W: AsMut<[u32]>>(
+        &self,
+        day: u32,
+        mark: Mark,
+        second: &mut Mesh<W>,
+        out: &mut [Licence],
+    ) -> Result<usize, Refusal> {
+        let (journal, start) = (self.words(), self.start());
+        let (second, out) = (second.words.as_mut(), numbers::words_mut(out));
+        let mut count = 0;
+        Refusal::from_number(unsafe {
+            calls::mk_licences(
+                journal.as_ptr(),
+                journal.len(),
+                start.as_ptr(),
+                start.len(),
+                day,
+                mark.0,
+                second.as_mut_ptr(),
+                second.len(),
+                out.as_mut_ptr(),
+                out.len(),
+                &mut count,
+            )
+        })?;
+        Ok(count as usize)
     }
 
     /// Whether journal and starting map are what some map and some dated edits

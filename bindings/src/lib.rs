@@ -1,9 +1,10 @@
 //! The complaint matcher's map for Rust.
 //!
 //! A [`Mesh`] holds survey marks joined by bars, triangles, quads, tetrahedra,
-//! pyramids, wedges and bricks in words that you own or lend. A complaint names
-//! a mark; the [star](Mesh::star) of the mark lists every cell around it: none
-//! missing, none extra.
+//! pyramids, wedges and bricks in words that you own or lend. The
+//! [star](Mesh::star) of a mark lists every cell around it: none missing, none
+//! extra. A complaint names a mark and a day; a [`Journal`] names the
+//! [licences](Journal::licences) of the cells that were around the mark then.
 //!
 //! ```
 //! use mengkiloh::{Cell, Mark, Mesh, Type};
@@ -19,8 +20,8 @@
 //! # }
 //! ```
 //!
-//! A [`Mark`], a [`Cell`] and a [`Half`] (a half-facet) are numbers of three
-//! registers: a cell's number where a mark's is due does not compile.
+//! A [`Mark`], a [`Cell`], a [`Half`] (a half-facet) and a [`Licence`] are numbers
+//! of four registers: a cell's number where a mark's is due does not compile.
 //!
 //! ```compile_fail,E0308
 //! # use mengkiloh::{Cell, Mark, Mesh};
@@ -39,9 +40,10 @@
 //! Every call is one of the proved library's, which this crate links; it adds
 //! no rule of its own. A call that is refused changes nothing and gives the
 //! [`Refusal`] with its number; a build refused at a record leaves a mesh with no
-//! cell, and a list of [`Edits`] that is stopped leaves those before. A
-//! [`Journal`] keeps each edit with its day and gives the map on any of them. A
-//! [`Surface`] is read from OFF text and written as such.
+//! cell, a list of [`Edits`] that is stopped leaves those before, and licences
+//! that the list has no room for leave that day's mesh. A [`Journal`] keeps each
+//! edit with its day and gives the map on any of them. A [`Surface`] is read from
+//! OFF text and written as such.
 
 #![warn(clippy::missing_errors_doc)]
 
@@ -63,7 +65,7 @@ use std::fmt;
 pub use journal::{journal_words, Journal};
 pub use lists::{Live, Walk};
 use numbers::Register;
-pub use numbers::{Cell, Half, Mark, Way};
+pub use numbers::{Cell, Half, Licence, Mark, Way};
 pub use records::{Edits, Records, Tally};
 pub use refusal::Refusal;
 pub use surfaces::{off_room, OffError, OffRefused, Surface};
@@ -416,7 +418,7 @@ impl<W: AsMut<[u32]>> Mesh<W> {
         .map_err(|refusal| BuildRefused { refusal, record })
     }
 
-    /// Inserts a cell under a number of the caller's.
+    /// Inserts a cell under a number of the caller's, without a licence: it is 0.
     ///
     /// # Errors
     ///
@@ -441,6 +443,35 @@ impl<W: AsMut<[u32]>> Mesh<W> {
                 words.len(),
                 cell.0,
                 code,
+                marks.as_ptr(),
+                marks.len(),
+            )
+        })
+    }
+
+    /// Inserts a cell with a licence, any number; no check looks at it.
+    ///
+    /// # Errors
+    ///
+    /// As [`insert`](Mesh::insert).
+    pub fn insert_licensed(
+        &mut self,
+        cell: Cell,
+        code: impl Into<u32>,
+        licence: Licence,
+        marks: &[Mark],
+    ) -> Result<(), Refusal> {
+        let code = code.into();
+        let marks = numbers::words(marks);
+        let words = self.words.as_mut();
+        // SAFETY: as in `build`.
+        Refusal::from_number(unsafe {
+            calls::mk_insert_licensed(
+                words.as_mut_ptr(),
+                words.len(),
+                cell.0,
+                code,
+                licence.0,
                 marks.as_ptr(),
                 marks.len(),
             )
@@ -565,6 +596,19 @@ impl<W: AsRef<[u32]>> Mesh<W> {
             calls::mk_type(words, n, cell.0, code)
         })?;
         Type::try_from(code).map_err(|_| Refusal::NotMesh)
+    }
+
+    /// A cell's licence, as it was given; 0 if it was inserted without one.
+    ///
+    /// # Errors
+    ///
+    /// [`Refusal::NotMesh`], [`Refusal::CellOutside`], [`Refusal::CellNotLive`]. The
+    /// first that fits, in this order.
+    pub fn licence(&self, cell: Cell) -> Result<Licence, Refusal> {
+        one_number(self.words(), |words, n, licence| unsafe {
+            calls::mk_licence(words, n, cell.0, licence)
+        })
+        .map(Licence)
     }
 
     /// The marks of a cell: the very words of the mesh that store them.

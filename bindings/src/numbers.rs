@@ -52,6 +52,11 @@ register! {
     Half
 }
 
+register! {
+    /// A licence's number; 0 is none.
+    Licence
+}
+
 impl Half {
     /// The half-facet of a cell's local facet. Cells run below 65,536 and
     /// facets below 8; the rest is cut off.

@@ -1,19 +1,20 @@
 //! What a build is made from, and a list of edits.
 
-use crate::{numbers, Cell, Mark};
+use crate::{numbers, Cell, Licence, Mark};
 
 /// Build records in one list of words: for each cell its number, its type's
-/// code and its marks.
+/// code, its licence and its marks.
 ///
 /// ```
-/// use mengkiloh::{room, Cell, Mark, Mesh, Records, Type};
+/// use mengkiloh::{room, Cell, Licence, Mark, Mesh, Records, Type};
 ///
 /// let mut records = Records::new();
-/// records.add(Cell(0), Type::Triangle, &[0, 1, 2].map(Mark));
-/// records.add(Cell(1), Type::Bar, &[2, 3].map(Mark));
+/// records.add(Cell(0), Type::Triangle, Licence(7), &[0, 1, 2].map(Mark));
+/// records.add(Cell(1), Type::Bar, Licence(0), &[2, 3].map(Mark));
 /// let mut map = Mesh::over(vec![0; room(6, 4)]);
 /// map.build(6, 4, &records)?;
 /// assert_eq!(map.count(Type::Bar), Ok(1));
+/// assert_eq!(map.licence(Cell(0)), Ok(Licence(7)));
 /// # Ok::<(), mengkiloh::BuildRefused>(())
 /// ```
 #[derive(Clone, Debug, Default, PartialEq, Eq)]
@@ -25,8 +26,8 @@ impl Records {
     }
 
     /// One record more. It is checked at the build, as it stands.
-    pub fn add(&mut self, cell: Cell, code: impl Into<u32>, marks: &[Mark]) {
-        self.0.extend([cell.0, code.into()]);
+    pub fn add(&mut self, cell: Cell, code: impl Into<u32>, licence: Licence, marks: &[Mark]) {
+        self.0.extend([cell.0, code.into(), licence.0]);
         self.0.extend(numbers::words(marks));
     }
 
@@ -46,13 +47,13 @@ impl From<Vec<u32>> for Records {
 /// number to remove.
 ///
 /// ```
-/// use mengkiloh::{Cell, Edits, Mark, Mesh, Tally, Type};
+/// use mengkiloh::{Cell, Edits, Licence, Mark, Mesh, Tally, Type};
 ///
 /// # fn main() -> Result<(), Box<dyn std::error::Error>> {
 /// let mut map = Mesh::with_room(6, 4)?;
 /// let mut edits = Edits::new();
-/// edits.insert(Cell(0), Type::Triangle, &[0, 1, 2].map(Mark));
-/// edits.insert(Cell(1), Type::Bar, &[2, 3].map(Mark));
+/// edits.insert(Cell(0), Type::Triangle, Licence(7), &[0, 1, 2].map(Mark));
+/// edits.insert(Cell(1), Type::Bar, Licence(0), &[2, 3].map(Mark));
 /// edits.remove(Cell(0));
 /// let mut tally = Tally::default();
 /// assert_eq!(map.edits(&edits, &mut tally)?, 3);
@@ -72,8 +73,9 @@ impl Edits {
     }
 
     /// An insert more. It is checked at its turn, as it stands.
-    pub fn insert(&mut self, cell: Cell, code: impl Into<u32>, marks: &[Mark]) {
-        self.0.extend([Edits::INSERT, cell.0, code.into()]);
+    pub fn insert(&mut self, cell: Cell, code: impl Into<u32>, licence: Licence, marks: &[Mark]) {
+        self.0
+            .extend([Edits::INSERT, cell.0, code.into(), licence.0]);
         self.0.extend(numbers::words(marks));
     }
 

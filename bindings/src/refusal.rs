@@ -4,7 +4,8 @@
 use std::fmt;
 
 /// Why a call was refused. A refused call changes nothing, save a build refused
-/// at a record, a surface refused at a face and a list of edits that is stopped.
+/// at a record, a surface refused at a face, a list of edits that is stopped, and
+/// licences that the list has no room for, which leave that day's mesh.
 #[derive(Clone, Copy, Debug, PartialEq, Eq, PartialOrd, Ord, Hash)]
 #[repr(u8)]
 pub enum Refusal {

@@ -6,7 +6,7 @@
 mod common;
 
 use common::{marks, ours, theirs, told, Chance, Question, SENTINEL};
-use mengkiloh::{room, Cell, Edits, EditsStopped, Mesh, Tally};
+use mengkiloh::{room, Cell, Edits, EditsStopped, Licence, Mesh, Tally};
 use second::shapes::type_with_code;
 use second::Memory;
 use std::collections::BTreeMap;
@@ -30,6 +30,12 @@ impl Edit {
         }
     }
 
+    /// The licence that an insert gives: few, so that cells of either crew have the
+    /// same.
+    fn licence(&self) -> u32 {
+        [0, 7, u32::MAX][self.cell() as usize % 3]
+    }
+
     /// The marks that an insert names; those of the cell that is live under a
     /// removal's number, or none.
     fn marks(&self, memory: &Memory) -> Vec<u32> {
@@ -41,7 +47,7 @@ impl Edit {
 
     fn words(&self) -> Vec<u32> {
         match self {
-            Insert(cell, code, marks) => [&[1, *cell, *code], &marks[..]].concat(),
+            Insert(cell, code, marks) => [&[1, *cell, *code, self.licence()], &marks[..]].concat(),
             Remove(cell) => vec![2, *cell],
         }
     }
@@ -59,7 +65,9 @@ impl Edit {
     fn in_library(&self, words: &mut [u32]) -> u8 {
         let mut mesh = Mesh::over(words);
         let answer = match self {
-            Insert(cell, code, named) => mesh.insert(Cell(*cell), *code, &marks(named)),
+            Insert(cell, code, named) => {
+                mesh.insert_licensed(Cell(*cell), *code, Licence(self.licence()), &marks(named))
+            }
             Remove(cell) => mesh.remove(Cell(*cell)),
         };
         ours(answer, |()| vec![]).0
@@ -67,7 +75,9 @@ impl Edit {
 
     fn in_second(&self, memory: &mut Memory) -> u8 {
         let answer = match self {
-            Insert(cell, code, named) => memory.insert(*cell, *code, named),
+            Insert(cell, code, named) => {
+                memory.insert_licensed(*cell, *code, self.licence(), named)
+            }
             Remove(cell) => memory.remove(*cell),
         };
         theirs(answer, |()| vec![]).0

@@ -6,8 +6,8 @@
 
 mod common;
 
-use common::{marks, plain, told, Chance, Number, Question, SENTINEL};
-use mengkiloh::{room, Cell, Edits, Mark, Mesh, Records, Refusal, Tally};
+use common::{draw_licence, marks, plain, told, Chance, Number, Question, SENTINEL};
+use mengkiloh::{room, Cell, Edits, Licence, Mark, Mesh, Records, Refusal, Tally};
 use second::shapes::type_with_code;
 use streams::lattice;
 
@@ -122,7 +122,10 @@ fn edit<W: AsMut<[u32]>>(chance: &mut Chance, mesh: &mut Mesh<W>) -> bool {
     }
     if chance.one_in(2) {
         let (code, drawn) = lattice::draw(chance, lattice::side(MARKS));
-        return mesh.insert(cell, code, &marks(&drawn)).is_ok();
+        let licence = Licence(draw_licence(chance));
+        return mesh
+            .insert_licensed(cell, code, licence, &marks(&drawn))
+            .is_ok();
     }
     let code = 1 + chance.below(7);
     let count = type_with_code(code).map_or(0, |row| row.marks);
@@ -209,7 +212,12 @@ fn one_call(chance: &mut Chance, words: &mut Vec<u32>) -> u64 {
             return 1;
         }
         2 => {
-            let records: Vec<u32> = (0..chance.below(12)).map(|_| chance.below(8)).collect();
+            let mut records: Vec<u32> = (0..chance.below(12)).map(|_| chance.below(8)).collect();
+            if chance.one_in(2) {
+                let (code, drawn) = lattice::draw(chance, lattice::side(MARKS));
+                let record = [chance.below(CELLS + 1), code, draw_licence(chance)];
+                records.splice(..0, record.into_iter().chain(drawn));
+            }
             let records = Records::from(records);
             let edition = chance.below(4);
             let mut mesh = Mesh::over(&mut words[..]);
@@ -254,7 +262,7 @@ fn some_edits(chance: &mut Chance, words: &mut [u32]) {
             0 => list.extend([2, chance.below(CELLS + 1)]),
             1 => list.extend((0..chance.below(8)).map(|_| chance.below(8))),
             _ => {
-                list.extend([1, chance.below(CELLS + 1), code]);
+                list.extend([1, chance.below(CELLS + 1), code, draw_licence(chance)]);
                 list.extend(drawn);
             }
         }
@@ -342,6 +350,7 @@ fn every_question() -> impl Iterator<Item = Question> {
         });
         halves.chain([
             Question::Type(cell),
+            Question::Licence(cell),
             Question::Marks(cell),
             Question::Neighbours(cell),
         ])

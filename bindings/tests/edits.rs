@@ -4,8 +4,8 @@
 
 mod common;
 
-use common::{marks, records, told, Chance, SENTINEL};
-use mengkiloh::{room, Cell, Edits, EditsStopped, Mesh, Refusal, Tally};
+use common::{draw_licence, marks, records, told, Chance, SENTINEL};
+use mengkiloh::{room, Cell, Edits, EditsStopped, Licence, Mesh, Refusal, Tally};
 use second::shapes::type_with_code;
 use second::Memory;
 use streams::lattice;
@@ -44,7 +44,9 @@ fn one_by_one(words: &mut [u32], edits: &[Edit]) -> (usize, u8) {
     let mut mesh = Mesh::over(words);
     for (made, edit) in edits.iter().enumerate() {
         let answer = match edit[..] {
-            [1, cell, code, ref rest @ ..] => mesh.insert(Cell(cell), code, &marks(rest)),
+            [1, cell, code, licence, ref rest @ ..] => {
+                mesh.insert_licensed(Cell(cell), code, Licence(licence), &marks(rest))
+            }
             [2, cell] => mesh.remove(Cell(cell)),
             _ => unreachable!("an edit of another kind"),
         };
@@ -86,7 +88,7 @@ fn draw(chance: &mut Chance, marks: u32, cells: u32) -> Edit {
             (code, drawn)
         }
     };
-    [&[1, cell, code], &drawn[..]].concat()
+    [&[1, cell, code, draw_licence(chance)], &drawn[..]].concat()
 }
 
 /// So many edits that are all accepted one after the other.
@@ -194,10 +196,10 @@ fn a_list_refused_at_every_place() {
         &[3, 1, 2],
         &[u32::MAX],
         &[2, 20],
-        &[1, 20, 2, 0, 1, 2],
-        &[1, 0, 8],
-        &[1, 0, 2, 0, 0, 1],
-        &[1, 0, 2, 0, 1, 27],
+        &[1, 20, 2, 7, 0, 1, 2],
+        &[1, 0, 8, 7],
+        &[1, 0, 2, 7, 0, 0, 1],
+        &[1, 0, 2, 7, 0, 1, 27],
         &[2, u32::MAX],
     ];
     for seed in 20..23 {

@@ -3,7 +3,9 @@
 mod common;
 
 use common::{plain, Number, SENTINEL};
-use mengkiloh::{room, BuildRefused, Cell, Edition, Half, Mark, Mesh, Records, Refusal, Type, Way};
+use mengkiloh::{
+    room, BuildRefused, Cell, Edition, Half, Licence, Mark, Mesh, Records, Refusal, Type, Way,
+};
 
 #[test]
 fn capacities_go_to_65535() {
@@ -150,7 +152,7 @@ fn strip(cells: u32, marks: u32) -> Records {
     let mut records = Records::new();
     for cell in 0..cells {
         let corners = [0, 1, 2].map(|step| Mark((cell + step) % marks));
-        records.add(Cell(cell), Type::Triangle, &corners);
+        records.add(Cell(cell), Type::Triangle, Licence(cell), &corners);
     }
     records
 }
@@ -186,6 +188,12 @@ fn a_full_mesh_is_built_and_whole() {
     let marks = [30_000, 30_001, 30_002].map(Mark);
     assert_eq!(map.insert(Cell(30_000), Type::Triangle, &marks), Ok(()));
     assert_eq!(map.marks_of(Cell(30_000)), Ok(&marks[..]));
+    assert_eq!(map.licence(Cell(30_000)), Ok(Licence(0)));
+    assert_eq!(map.licence(Cell(65_534)), Ok(Licence(65_534)));
+    assert_eq!(map.remove(Cell(30_000)), Ok(()));
+    assert_eq!(map.licence(Cell(30_000)), Err(Refusal::CellNotLive));
+    let again = map.insert_licensed(Cell(30_000), Type::Triangle, Licence(30_000), &marks);
+    assert_eq!(again, Ok(()));
     let mut afresh = Mesh::over(vec![7; exact]);
     assert_eq!(afresh.build(65_535, 65_535, &strip(65_535, 65_535)), Ok(()));
     assert_eq!(afresh.words(), map.words());
@@ -198,7 +206,7 @@ fn bricks(cells: u32, marks: u32) -> Records {
     let mut records = Records::new();
     for cell in 0..cells {
         let corners = [0, 1, 2, 3, 4, 5, 6, 7].map(|step| Mark((cell + step) % marks));
-        records.add(Cell(cell), Type::Brick, &corners);
+        records.add(Cell(cell), Type::Brick, Licence(u32::MAX - cell), &corners);
     }
     records
 }
@@ -229,7 +237,9 @@ fn a_full_mesh_of_bricks_is_built_whole_and_emptied() {
     assert_eq!(map.remove(Cell(30_000)), Ok(()));
     assert!(map.whole());
     assert_eq!(map.lookup(&face), Ok(Some(cycle[2])));
-    assert_eq!(map.insert(Cell(30_000), Type::Brick, &marks), Ok(()));
+    let licence = Licence(u32::MAX - 30_000);
+    let again = map.insert_licensed(Cell(30_000), Type::Brick, licence, &marks);
+    assert_eq!(again, Ok(()));
     assert_eq!(map.words(), full);
     for cell in (0..65_535).map(Cell) {
         assert_eq!(map.remove(cell), Ok(()));
@@ -246,7 +256,7 @@ fn tetrahedra(cells: u32, marks: u32) -> Records {
     let mut records = Records::new();
     for cell in 0..cells {
         let corners = [0, 1, 2, 3].map(|step| Mark((cell + step) % marks));
-        records.add(Cell(cell), Type::Tetrahedron, &corners);
+        records.add(Cell(cell), Type::Tetrahedron, Licence(0), &corners);
     }
     records
 }
@@ -331,8 +341,8 @@ fn a_third_solid_is_refused_after_a_twin_and_before_a_full_mark() {
 #[test]
 fn a_build_refused_at_a_record_leaves_no_cell() {
     let mut records = strip(100, 300);
-    records.add(Cell(100), Type::Triangle, &[0, 1, 2].map(Mark));
-    records.add(Cell(0), Type::Triangle, &[0, 1, 2].map(Mark));
+    records.add(Cell(100), Type::Triangle, Licence(1), &[0, 1, 2].map(Mark));
+    records.add(Cell(0), Type::Triangle, Licence(1), &[0, 1, 2].map(Mark));
     let mut map = Mesh::over(vec![SENTINEL; room(300, 200) + 2]);
     let refused = BuildRefused {
         refusal: Refusal::CellSame,
@@ -341,11 +351,14 @@ fn a_build_refused_at_a_record_leaves_no_cell() {
     assert_eq!(map.build(300, 200, &records), Err(refused));
     assert!(map.whole());
     assert_eq!(map.count(Type::Triangle), Ok(0));
-    let cut = Records::from(strip(3, 300).words()[..14].to_vec());
-    let refused = BuildRefused {
-        refusal: Refusal::CountWrong,
-        record: 2,
-    };
-    assert_eq!(map.build(300, 200, &cut), Err(refused));
+    // the third record is of words 12 to 17: cut at each of them
+    for length in 13..18 {
+        let cut = Records::from(strip(3, 300).words()[..length].to_vec());
+        let refused = BuildRefused {
+            refusal: Refusal::CountWrong,
+            record: 2,
+        };
+        assert_eq!(map.build(300, 200, &cut), Err(refused));
+    }
     assert_eq!(map.words()[room(300, 200)..], [SENTINEL; 2]);
 }

@@ -3,8 +3,8 @@
 
 mod common;
 
-use common::{marks, ours, records, theirs, Chance, Question, SENTINEL};
-use mengkiloh::{room, Cell, Mesh};
+use common::{draw_licence, marks, ours, records, theirs, Chance, Question, SENTINEL};
+use mengkiloh::{room, Cell, Licence, Mesh};
 use second::map::LiveCell;
 use second::shapes::type_with_code;
 use second::Memory;
@@ -115,8 +115,13 @@ fn one_edit(chance: &mut Chance, size: &Size, memory: &mut [u32], second: &mut M
             0 => draw_part(chance, size),
             _ => draw_cell(chance, size),
         };
-        let expected = theirs(second.insert(cell, code, &drawn), |()| vec![]);
-        let answer = mesh.insert(Cell(cell), code, &marks(&drawn));
+        let licence = draw_licence(chance);
+        let inserted = second.insert_licensed(cell, code, licence, &drawn);
+        let expected = theirs(inserted, |()| vec![]);
+        let answer = match licence {
+            0 => mesh.insert(Cell(cell), code, &marks(&drawn)),
+            _ => mesh.insert_licensed(Cell(cell), code, Licence(licence), &marks(&drawn)),
+        };
         (ours(answer, |()| vec![]), expected, drawn)
     };
     assert_eq!(answer, expected);

@@ -5,8 +5,8 @@ mod common;
 
 use std::collections::BTreeSet;
 
-use common::{is_map, marks, ours, theirs, told, Chance, Question, SENTINEL};
-use mengkiloh::{journal_words, room, Cell, Journal, Mesh};
+use common::{draw_licence, is_map, marks, ours, theirs, told, Chance, Question, SENTINEL};
+use mengkiloh::{journal_words, room, Cell, Journal, Licence, Mesh};
 use second::journal::{Edit, Journal as TheirJournal, EDIT_WORDS, HEAD_WORDS};
 use second::Memory;
 use streams::lattice;
@@ -107,8 +107,12 @@ impl Desk {
                     Edit::Insert {
                         cell,
                         code,
+                        licence,
                         marks: list,
-                    } => journal.insert(&mut mesh, *day, Cell(*cell), *code, &marks(list)),
+                    } => {
+                        let licence = Licence(*licence);
+                        journal.insert(&mut mesh, *day, Cell(*cell), *code, licence, &marks(list))
+                    }
                     Edit::Remove { cell } => journal.remove(&mut mesh, *day, Cell(*cell)),
                 };
                 let expected = self
@@ -185,8 +189,13 @@ fn journal_of(journal: &TheirJournal) -> Vec<u32> {
     words.resize(HEAD_WORDS, 0);
     for (k, (day, edit)) in book.entries.iter().enumerate() {
         match edit {
-            Edit::Insert { cell, code, marks } => {
-                words.extend([*day, 1, *cell, *code, 0]);
+            Edit::Insert {
+                cell,
+                code,
+                licence,
+                marks,
+            } => {
+                words.extend([*day, 1, *cell, *code, *licence]);
                 words.extend(marks);
             }
             Edit::Remove { cell } => words.extend([*day, 2, *cell]),
@@ -206,7 +215,13 @@ fn draw(chance: &mut Chance, of: (u32, u32), theirs: &Memory) -> Edit {
     }
     let (code, marks) = lattice::draw(chance, lattice::side(of.0));
     let cell = chance.below(of.1);
-    Edit::Insert { cell, code, marks }
+    let licence = draw_licence(chance);
+    Edit::Insert {
+        cell,
+        code,
+        licence,
+        marks,
+    }
 }
 
 /// Two years, with a fold each day once one is allowed.
@@ -371,6 +386,7 @@ fn bar(cell: u32, marks: [u32; 2]) -> Edit {
     Edit::Insert {
         cell,
         code: 1,
+        licence: 7 * cell,
         marks,
     }
 }
@@ -464,6 +480,7 @@ fn an_entry_refuses_in_order() {
     let insert = |cell: u32, code: u32, marks: &[u32]| Edit::Insert {
         cell,
         code,
+        licence: u32::MAX,
         marks: marks.to_vec(),
     };
     let edits = [

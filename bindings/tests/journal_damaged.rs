@@ -1,15 +1,18 @@
 //! Damaged journals, starting maps and meshes into every call of a journal: each
 //! returns, a refusal changes nothing, and nothing beyond the room or behind the
-//! last edit that fits changes. The whole check says yes exactly where the words
-//! are filed (docs/LAYOUT.md), and where it does, the map on a day is the second
-//! program's.
+//! last edit that fits changes; of a complaint that is refused, that holds but for
+//! the second memory's room. The whole check says yes exactly where the words are
+//! filed (docs/LAYOUT.md), and where it does, the map on a day and the licences to
+//! ask are the second program's.
 //!
 //! MENGKILOH_DAMAGE gives the count of calls, 300,000 where it is not set.
 
 mod common;
 
-use common::{is_map, marks, told, Chance, SENTINEL};
-use mengkiloh::{journal_words, room, Cell, Journal, Mesh, Refusal};
+use std::collections::BTreeSet;
+
+use common::{draw_licence, is_map, marks, told, Chance, SENTINEL};
+use mengkiloh::{journal_words, room, Cell, Journal, Licence, Mark, Mesh, Refusal};
 use second::shapes::type_with_code;
 use streams::lattice;
 
@@ -36,6 +39,7 @@ fn every_call_is_safe_on_damaged_memory() {
         .unwrap_or(300_000_u64);
     let mut chance = Chance::from_seed(9);
     let (mut made, mut accepted) = (0, 0);
+    let mut complaints = Complaints::default();
     let (mut whole, mut damaged_whole, mut refused_entries) = (0, 0, 0);
     while made < calls {
         let good = kept(&mut chance);
@@ -47,6 +51,10 @@ fn every_call_is_safe_on_damaged_memory() {
                 made += 1;
                 accepted += u64::from(one_call(&mut chance, &mut lent));
             }
+            if chance.one_in(2) {
+                made += 1;
+                complain(&mut chance, &mut lent, &mut complaints);
+            }
             assert_eq!(is_whole(&lent), is_filed(&lent), "{lent:?}");
             if is_whole(&lent) {
                 whole += 1;
@@ -57,9 +65,12 @@ fn every_call_is_safe_on_damaged_memory() {
     }
     println!(
         "{made} calls, {accepted} accepted; whole {whole} times, {damaged_whole} of another \
-         journal, {refused_entries} with an entry that is refused when it is made again"
+         journal, {refused_entries} with an entry that is refused when it is made again; \
+         {complaints:?}"
     );
     assert!(accepted > 1_000 && damaged_whole > 100 && refused_entries > 10);
+    let Complaints { named, of } = complaints;
+    assert!(named > 1_000 && [0, 2, 8, 12, 14, 21].iter().all(|&number| of[number] > 100));
 }
 
 /// Memory that the calls kept, with words behind each room.
@@ -103,7 +114,8 @@ fn enter<S>(
         return journal.remove(mesh, day, cell);
     }
     let (code, drawn) = lattice::draw(chance, lattice::side(MARKS));
-    journal.insert(mesh, day, cell, code, &marks(&drawn))
+    let licence = Licence(draw_licence(chance));
+    journal.insert(mesh, day, cell, code, licence, &marks(&drawn))
 }
 
 fn damage(chance: &mut Chance, lent: &mut Lent) {
@@ -233,6 +245,55 @@ fn one_call(chance: &mut Chance, lent: &mut Lent) -> bool {
     true
 }
 
+/// How many complaints were answered, or refused with a number, and how many
+/// licences they named.
+#[derive(Default, Debug)]
+struct Complaints {
+    named: usize,
+    of: [u64; 32],
+}
+
+/// A complaint, into second memory that is short now and then and a list of any
+/// room: a refusal leaves the list, an answer writes its first places alone, and
+/// nothing but the room of second memory changes.
+fn complain(chance: &mut Chance, lent: &mut Lent, told: &mut Complaints) {
+    let before = lent.clone();
+    let day = match chance.below(4) {
+        0 => chance.below(70_000),
+        1 => lent.journal.get(7).map_or(0, |fold| fold.wrapping_sub(2)),
+        _ => lent
+            .journal
+            .get(5)
+            .map_or(0, |last| last.wrapping_sub(chance.below(40))),
+    };
+    let mark = Mark(chance.below(MARKS + 2));
+    let words = match chance.below(4) {
+        0 => chance.below(lent.second.len() as u32 + 1) as usize,
+        _ => lent.second.len(),
+    };
+    let places = chance.below(6) as usize;
+    let mut out = [Licence(SENTINEL); 16];
+    let answer = Journal::over(&lent.journal[..], &lent.start[..]).licences_into(
+        day,
+        mark,
+        &mut Mesh::over(&mut lent.second[..words]),
+        &mut out[..places],
+    );
+    let count = answer.unwrap_or(0);
+    assert!(count <= places);
+    assert!(out[count..].iter().all(|&place| place == Licence(SENTINEL)));
+    let end = room_in(&lent.start).min(words);
+    assert_eq!(lent.second[end..], before.second[end..]);
+    let number = answer.map_or_else(|why| why.number(), |_| 0);
+    if matches!(number, 14 | 21 | 2 | 8) {
+        assert_eq!(lent.second, before.second, "refused with {number}");
+    }
+    lent.second.clone_from(&before.second);
+    assert_eq!(*lent, before, "the journal, its starting map and the mesh");
+    told.named += count;
+    told.of[usize::from(number)] += 1;
+}
+
 fn is_whole(lent: &Lent) -> bool {
     Journal::over(&lent.journal[..], &lent.start[..]).whole()
 }
@@ -272,7 +333,7 @@ fn is_filed(lent: &Lent) -> bool {
             2 => zero(&words[3..]),
             _ => false,
         };
-        if !right || words[4] != 0 {
+        if !right {
             return false;
         }
         days.push(words[0]);
@@ -291,7 +352,8 @@ fn is_filed(lent: &Lent) -> bool {
 }
 
 /// The map on a day is the starting map with the entries of that day and earlier
-/// ones made once more, a refused one left out. Whether one was.
+/// ones made once more, a refused one left out, and a complaint names the licences
+/// of its cells. Whether an entry was left out.
 fn days_agree(chance: &mut Chance, lent: &Lent) -> bool {
     let Lent { journal, start, .. } = lent;
     let (entries, last, fold) = (journal[4] as usize, journal[5], journal[7]);
@@ -307,7 +369,10 @@ fn days_agree(chance: &mut Chance, lent: &Lent) -> bool {
                 break;
             }
             let made = match words[1] {
-                1 => theirs.insert(words[2], words[3], &words[5..][..mark_count(words[3])]),
+                1 => {
+                    let marks = &words[5..][..mark_count(words[3])];
+                    theirs.insert_licensed(words[2], words[3], words[4], marks)
+                }
                 _ => theirs.remove(words[2]),
             };
             left_out |= made.is_err();
@@ -316,6 +381,17 @@ fn days_agree(chance: &mut Chance, lent: &Lent) -> bool {
         Journal::over(&journal[..], &start[..])
             .on(day, &mut second)
             .expect("a day that is kept");
+        is_map(second.words(), &theirs);
+        let mark = chance.below(start[1] + 1);
+        let named = Journal::over(&journal[..], &start[..]).licences(day, Mark(mark), &mut second);
+        let cells = theirs.mesh.iter().flat_map(|mesh| &mesh.live);
+        let around = cells.filter(|cell| cell.marks.contains(&second::map::Mark(mark)));
+        let licences: BTreeSet<u32> = around.map(|cell| cell.licence).collect();
+        let due = licences.into_iter().filter(|&licence| licence != 0);
+        match mark < start[1] {
+            true => assert_eq!(named, Ok(due.map(Licence).collect())),
+            false => assert_eq!(named, Err(Refusal::MarkOutside)),
+        }
         is_map(second.words(), &theirs);
     }
     left_out

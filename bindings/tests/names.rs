@@ -3,7 +3,7 @@
 
 use std::path::Path;
 
-use mengkiloh::{Cell, Edition, Edits, Mark, Refusal, Type, Way};
+use mengkiloh::{Cell, Edition, Edits, Licence, Mark, Refusal, Type, Way};
 
 /// What stands between the braces behind `opening` in a file of the repository.
 fn braced(file: &str, opening: &str) -> String {
@@ -159,8 +159,8 @@ fn the_kinds_of_edits_are_1_and_2() {
     let mut edits = Edits::new();
     edits.remove(Cell(7));
     assert_eq!(edits.words(), [second::calls::REMOVE, 7]);
-    edits.insert(Cell(8), Type::Bar, &[5, 6].map(Mark));
-    assert_eq!(edits.words()[2..], [second::calls::INSERT, 8, 1, 5, 6]);
+    edits.insert(Cell(8), Type::Bar, Licence(9), &[5, 6].map(Mark));
+    assert_eq!(edits.words()[2..], [second::calls::INSERT, 8, 1, 9, 5, 6]);
     let inside = braced("include/mengkiloh.h", "enum mk_kind {");
     let rows: Vec<&str> = inside
         .lines()
@@ -180,7 +180,7 @@ fn the_header_has_the_version_of_the_library() {
         .find_map(|line| line.strip_prefix("#define MK_VERSION 0x"));
     let digits = defined.expect("the version is there").trim_end_matches('u');
     assert_eq!(u32::from_str_radix(digits, 16), Ok(mengkiloh::version()));
-    assert_eq!(mengkiloh::version().to_be_bytes(), [0, 4, 4, 0]);
+    assert_eq!(mengkiloh::version().to_be_bytes(), [0, 5, 0, 0]);
 }
 
 #[test]

@@ -5,7 +5,7 @@ mod common;
 
 use common::{is_map, marks, records, Chance, Question, SENTINEL};
 use mengkiloh::{
-    off_room, room, Cell, Edition, Mesh, OffError, OffRefused, Refusal, Surface, Type,
+    off_room, room, Cell, Edition, Licence, Mesh, OffError, OffRefused, Refusal, Surface, Type,
 };
 use second::off;
 use second::Memory;
@@ -234,8 +234,9 @@ fn drawn(chance: &mut Chance) -> (Mesh<Vec<u32>>, Memory, Vec<i16>) {
     for cell in 0..cells {
         let size = 3 + chance.below(2);
         let on: Vec<u32> = (0..size).map(|_| chance.below(count)).collect();
-        let ours = mesh.insert(Cell(cell), size - 1, &marks(&on));
-        let theirs = memory.insert(cell, size - 1, &on);
+        let licence = chance.below(3);
+        let ours = mesh.insert_licensed(Cell(cell), size - 1, Licence(licence), &marks(&on));
+        let theirs = memory.insert_licensed(cell, size - 1, licence, &on);
         assert_eq!(
             ours.map_err(Refusal::number),
             theirs.map_err(second::Refusal::number)
@@ -268,6 +269,8 @@ fn written_read_and_written_again() {
             let place = Cell(place as u32);
             assert_eq!(again.mesh.marks_of(place), mesh.marks_of(cell));
             assert_eq!(again.mesh.type_of(place), mesh.type_of(cell));
+            // OFF has no place for a licence
+            assert_eq!(again.mesh.licence(place), Ok(Licence(0)));
         }
         assert_eq!(again.mesh.write_off(&again.positions), Ok(text));
     }

@@ -1,12 +1,13 @@
-"""The journal: the map on any day."""
+"""The journal: the map on any day, and the licences to ask for a complaint."""
 
 from __future__ import annotations
 
 import ctypes
 from collections.abc import Iterable
+from ctypes import byref, c_uint32
 
 from .library import load
-from .mesh import Memory, Mesh, judge, lent, number, numbers, room
+from .mesh import MOST_AROUND, Memory, Mesh, judge, lent, number, numbers, room
 
 HEAD = 16
 AN_EDIT = 16
@@ -24,9 +25,12 @@ class Journal:
 
     >>> mesh = Mesh.with_room(6, 4)
     >>> journal = Journal.begin(mesh, edits=1000)
-    >>> journal.insert(100, 0, 2, [0, 1, 2])
+    >>> journal.insert(100, 0, 2, [0, 1, 2], licence=7)
     >>> journal.on(99).star(2, 1), journal.on(100).star(2, 1)
     ([], [0])
+    >>> journal.remove(130, 0)
+    >>> journal.licences(129, 1), journal.licences(130, 1)
+    ([7], [])
     """
 
     def __init__(self, mesh: Mesh, memory: Memory, start: Memory) -> None:
@@ -49,13 +53,13 @@ class Journal:
         judge(load().mk_journal_begin(*pair(mesh._words), *pair(journal._words), *pair(journal._start)))
         return journal
 
-    def insert(self, day: int, cell: int, kind: int, marks: Iterable[int]) -> None:
-        """Inserts a cell on a day.
+    def insert(self, day: int, cell: int, kind: int, marks: Iterable[int], licence: int = 0) -> None:
+        """Inserts a cell on a day, with a licence; 0 is none.
 
         Refused with 14, 1 for a day above 65,535, 20 for a day before the last, as `Mesh.insert`, 23 where the journal is full.
         """
         list_ = numbers("a mark", marks)
-        edit = number("a day", day), number("a cell", cell), number("a type", kind)
+        edit = number("a day", day), number("a cell", cell), number("a type", kind), number("a licence", licence)
         judge(load().mk_journal_insert(*pair(self.mesh._words), *pair(self._words), *edit, *pair(list_)))
 
     def remove(self, day: int, cell: int) -> None:
@@ -71,9 +75,26 @@ class Journal:
 
         Refused with 14, 21 for a day before the last fold, 2.
         """
+        second = self._second(memory)
+        judge(load().mk_journal_on(*pair(self._words), *pair(self._start), number("a day", day), *pair(second._words)))
+        return second
+
+    def licences(self, day: int, mark: int, memory: Memory | None = None) -> list[int]:
+        """The licences to ask for a complaint: of all cells that are around the mark on that day, of every dimension, ascending, each once,
+        0 left out. Memory that is lent becomes that day's mesh, as by `on`.
+
+        Refused with 14, 21 for a day before the last fold, 2, 8.
+        """
+        second, out, count = self._second(memory), (c_uint32 * MOST_AROUND)(), c_uint32()
+        asked = number("a day", day), number("a mark", mark)
+        kept = *pair(self._words), *pair(self._start)
+        judge(load().mk_licences(*kept, *asked, *pair(second._words), *pair(out), byref(count)))
+        return out[: count.value]
+
+    def _second(self, memory: Memory | None) -> Mesh:
+        """Second memory, lent or its own, apart from the journal and the starting map."""
         second = Mesh(bytearray(4 * len(self._start)) if memory is None else memory)
         apart(second._words, self._words, self._start)
-        judge(load().mk_journal_on(*pair(self._words), *pair(self._start), number("a day", day), *pair(second._words)))
         return second
 
     def fold(self, day: int) -> None:

@@ -11,7 +11,7 @@ from functools import cache
 from pathlib import Path
 
 NAME = "libmengkiloh.so"
-MAJOR = 4
+MAJOR = 5
 
 WHAT_TO_RUN = """libmengkiloh is not found. Any of these makes it found:
   ./build at the root of the repository, which makes it in target/mengkiloh;
@@ -33,10 +33,11 @@ CALLS: dict[str, list] = {
     "mk_capacities": [*LENT, NUMBER, NUMBER],
     "mk_free": [*LENT, NUMBER, NUMBER],
     "mk_live": [*LENT, *LENT, NUMBER],
-    "mk_insert": [*LENT, c_uint32, c_uint32, *LENT],
+    "mk_insert_licensed": [*LENT, c_uint32, c_uint32, c_uint32, *LENT],
     "mk_remove": [*LENT, c_uint32],
     "mk_edits": [*LENT, *LENT, WORDS, POINTER(c_size_t)],
     "mk_type": [*LENT, c_uint32, NUMBER],
+    "mk_licence": [*LENT, c_uint32, NUMBER],
     "mk_marks": [*LENT, c_uint32, NUMBER, NUMBER],
     "mk_sibling": [*LENT, c_uint32, c_uint32, NUMBER, NUMBER],
     "mk_cycle": [*LENT, c_uint32, c_uint32, *LENT, *LENT, NUMBER],
@@ -55,13 +56,14 @@ CALLS: dict[str, list] = {
     "mk_off_write": [*METRES, POINTER(c_uint8), c_size_t, POINTER(c_size_t)],
     "mk_whole": LENT,
     "mk_journal_begin": [*LENT, *LENT, *LENT],
-    "mk_journal_insert": [*LENT, *LENT, c_uint32, c_uint32, c_uint32, *LENT],
+    "mk_journal_insert": [*LENT, *LENT, c_uint32, c_uint32, c_uint32, c_uint32, *LENT],
     "mk_journal_remove": [*LENT, *LENT, c_uint32, c_uint32],
     "mk_journal_on": [*LENT, *LENT, c_uint32, *LENT],
+    "mk_licences": [*LENT, *LENT, c_uint32, c_uint32, *LENT, *LENT, NUMBER],
     "mk_journal_fold": [*LENT, *LENT, c_uint32],
     "mk_journal_whole": [*LENT, *LENT],
 }
-"""The calls that the module makes, and what each takes; all answer a byte. `format` and `build` are those of an edition."""
+"""The calls that the module makes, and what each takes; all answer a byte. `format` and `build` are those of an edition, `insert` is that with a licence."""
 
 
 class LibraryMissing(OSError):

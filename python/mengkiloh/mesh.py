@@ -155,25 +155,26 @@ class Mesh:
         capacities = [number("a capacity", value) for value in (marks, cells)]
         self._ask("mk_format_edition", *capacities, number("an edition", edition))
 
-    def build(self, marks: int, cells: int, records: Iterable[tuple[int, int, Sequence[int]]], edition: int = Edition.FIRST) -> None:
-        """Formats, and inserts each record in order: a cell's number, its type, its marks.
+    def build(self, marks: int, cells: int, records: Iterable[Insert | tuple[int, int, Sequence[int]]], edition: int = Edition.FIRST) -> None:
+        """Formats, and inserts each record in order: an `Insert`, or a tuple of its parts, of which the licence may be left out.
 
         Refused with 6 for an edition that is none, 1, 2, and at a record as `insert`; the exception's `record` is its place, from 0, and the
         mesh then has no cell.
         """
         capacities = [number("a capacity", value) for value in (marks, cells)]
-        words = numbers("a word of a record", (word for cell, kind, list_ in records for word in (cell, kind, *list_)))
+        words = numbers("a word of a record", (word for record in records for word in record_words(Insert(*record))))
         place = c_uint32()
         refusal = self._call("mk_build_edition", *capacities, number("an edition", edition), words, len(words), byref(place))
         judge(refusal, record=place.value)
 
-    def insert(self, cell: int, kind: int, marks: Iterable[int]) -> None:
-        """Inserts a cell under a number of the caller's.
+    def insert(self, cell: int, kind: int, marks: Iterable[int], licence: int = 0) -> None:
+        """Inserts a cell under a number of the caller's, with a licence, any number of 32 bits; 0 is none.
 
-        Refused with 14, 3, 4, 6, 7, 8, 9, 10, under edition 2 with 19, 11.
+        Refused with 14, 3, 4, 6, 7, 8, 9, 10, under edition 2 with 19, 11. No check looks at the licence.
         """
         list_ = numbers("a mark", marks)
-        self._ask("mk_insert", number("a cell", cell), number("a type", kind), list_, len(list_))
+        given = number("a cell", cell), number("a type", kind), number("a licence", licence)
+        self._ask("mk_insert_licensed", *given, list_, len(list_))
 
     def remove(self, cell: int) -> None:
         """Removes a cell.
@@ -225,6 +226,10 @@ class Mesh:
             return Type(code)
         except ValueError:  # on memory that is no well-formed mesh
             raise NotMesh from None
+
+    def licence_of(self, cell: int) -> int:
+        """The licence of a cell, 0 if it was inserted without one. Refused with 14, 3, 5."""
+        return self._one("mk_licence", number("a cell", cell))
 
     def marks_of(self, cell: int) -> list[int]:
         """The marks of a cell, in the order given at insertion. Refused with 14, 3, 5."""
@@ -387,10 +392,15 @@ class Mesh:
             return f"<{len(self._words)} words that are no mesh>"
 
 
+def record_words(record: Insert) -> tuple[int, ...]:
+    """A build record: the cell's number, its type, its licence, its marks."""
+    return (record.cell, record.kind, record.licence, *record.marks)
+
+
 def edit_words(edit: Insert | Remove) -> tuple[int, ...]:
     """1 and a build record, or 2 and a cell's number."""
     if isinstance(edit, Insert):
-        return (1, edit.cell, edit.kind, *edit.marks)
+        return (1, *record_words(edit))
     if isinstance(edit, Remove):
         return (2, edit.cell)
     raise TypeError(f"an edit is an Insert or a Remove, not {edit!r}")

@@ -88,11 +88,12 @@ class Measure(NamedTuple):
 
 
 class Insert(NamedTuple):
-    """A listed edit, or a build record: a cell of a type on its marks."""
+    """A listed edit, or a build record: a cell of a type on its marks, with its licence; 0 is none."""
 
     cell: int
     kind: int
     marks: Sequence[int]
+    licence: int = 0
 
 
 class Remove(NamedTuple):

@@ -1,4 +1,4 @@
-"""The module over the proved library: the outline's cases, refusals, lent memory, iterators and days."""
+"""The module over the proved library: the outline's cases, refusals, lent memory, iterators, licences, days and complaints."""
 
 import doctest
 import re
@@ -176,6 +176,10 @@ class Numbers(unittest.TestCase):
                 lambda: mesh.insert(bad, Type.BAR, [0, 1]),
                 lambda: mesh.insert(1, bad, [0, 1]),
                 lambda: mesh.insert(1, Type.BAR, [0, bad]),
+                lambda: mesh.insert(1, Type.BAR, [0, 1], licence=bad),
+                lambda: mesh.licence_of(bad),
+                lambda: Mesh(bytearray(4 * room(6, 8))).build(6, 8, [(1, Type.BAR, [0, 1], bad)]),
+                lambda: mesh.edits([Insert(1, Type.BAR, [0, 1], bad)]),
                 lambda: mesh.sibling(0, bad),
                 lambda: mesh.lookup([bad]),
                 lambda: Mesh.with_room(bad, 1),
@@ -336,6 +340,97 @@ class Surfaces(unittest.TestCase):
             mesh.read_off([0] * 12, b"OFF 0 0 0")
 
 
+class Licences(unittest.TestCase):
+    LARGEST = 2**32 - 1
+
+    def test_given_at_insertion_and_read_back(self):
+        mesh = Mesh.with_room(6, 4)
+        for cell, licence in enumerate((7, 0, self.LARGEST)):
+            mesh.insert(cell, Type.TRIANGLE, [cell, 4, 5], licence)
+            self.assertEqual((mesh.licence_of(cell), mesh.type_of(cell), mesh.marks_of(cell)), (licence, Type.TRIANGLE, [cell, 4, 5]))
+        mesh.insert(3, Type.TRIANGLE, [3, 4, 5])
+        self.assertEqual(mesh.licence_of(3), 0)
+        self.assertTrue(mesh.whole())
+        with self.assertRaises(mengkiloh.CellOutside):
+            mesh.licence_of(4)
+        mesh.remove(2)
+        with self.assertRaises(mengkiloh.CellNotLive):
+            mesh.licence_of(2)
+        with self.assertRaises(mengkiloh.NotMesh):
+            Mesh(bytearray(60)).licence_of(0)
+
+    def test_no_check_looks_at_them(self):
+        mesh = triangles([0, 1, 2])
+        for licence in (0, 7, self.LARGEST):
+            with self.assertRaises(mengkiloh.CellSame):
+                mesh.insert(1, Type.TRIANGLE, [2, 0, 1], licence)
+        self.assertEqual((mesh.live(), mesh.licence_of(0)), ([0], 0))
+
+    def test_records_and_edits_have_them(self):
+        records = [Insert(0, Type.TRIANGLE, [0, 1, 2], 7), Insert(1, Type.BAR, [0, 1], self.LARGEST), Insert(3, Type.BAR, [1, 2])]
+        built, listed = Mesh(bytearray(4 * room(6, 4))), Mesh.with_room(6, 4)
+        built.build(6, 4, records)
+        self.assertEqual([built.licence_of(cell) for cell in built], [7, self.LARGEST, 0])
+        self.assertEqual(listed.edits(records), 3)
+        self.assertEqual(listed.memory, built.memory)
+        one_by_one, plain = Mesh.with_room(6, 4), Mesh(bytearray(4 * room(6, 4)))
+        for record in records:
+            one_by_one.insert(*record)
+        self.assertEqual(one_by_one.memory, built.memory)
+        # tuples of the same parts, the licence there or left out
+        plain.build(6, 4, [tuple(records[0]), tuple(records[1]), records[2][:3]])
+        self.assertEqual(plain.memory, built.memory)
+        with self.assertRaises(TypeError):
+            plain.build(6, 4, [(0, Type.BAR)])
+
+    def test_complaints(self):
+        mesh = triangles([0, 1, 2], marks=7, count=6)
+        kept = Journal.begin(mesh, edits=8)
+        kept.insert(10, 1, Type.TRIANGLE, [2, 1, 3], 9)
+        kept.insert(10, 2, Type.BAR, [1, 4], self.LARGEST)
+        kept.insert(20, 3, Type.TETRAHEDRON, [1, 4, 5, 6], 3)
+        kept.insert(20, 4, Type.BAR, [1, 5], 9)
+        kept.remove(30, 3)
+        rows = {9: [], 10: [9, self.LARGEST], 19: [9, self.LARGEST], 20: [3, 9, self.LARGEST], 29: [3, 9, self.LARGEST], 30: [9, self.LARGEST]}
+        self.assertEqual({day: kept.licences(day, 1) for day in rows}, rows)
+        self.assertEqual((kept.licences(29, 6), kept.licences(2**32 - 1, 6), kept.licences(29, 0)), ([3], [], []))
+        self.assertEqual([kept.on(day).licence_of(1) for day in (10, 30)], [9, 9])
+
+    def test_refused(self):
+        mesh = triangles([0, 1, 2], marks=6, count=4)
+        kept = Journal.begin(mesh, edits=4)
+        kept.remove(100, 0)
+        kept.insert(500, 0, Type.BAR, [0, 1], 5)
+        kept.fold(110)
+        short, exact = bytearray(4 * room(6, 4) - 4), bytearray(4 * room(6, 4))
+        for refused, day, mark, memory in (
+            (mengkiloh.DayFolded, 109, 6, short),
+            (mengkiloh.MemoryShort, 110, 6, short),
+            (mengkiloh.MarkOutside, 110, 6, exact),
+        ):
+            with self.assertRaises(refused):
+                kept.licences(day, mark, memory)
+            self.assertFalse(any(memory))
+        self.assertEqual(kept.licences(500, 1, exact), [5])
+        self.assertEqual(exact, mesh.memory)
+        with self.assertRaises(ValueError):
+            kept.licences(500, 1, kept.start)
+        for bad in (2**32, -1):
+            for call in (lambda: kept.licences(bad, 0), lambda: kept.licences(0, bad), lambda: kept.insert(500, 1, Type.BAR, [1, 2], bad)):
+                with self.assertRaises(ValueError):
+                    call()
+        kept.memory[0] ^= 1
+        with self.assertRaises(mengkiloh.NotMesh):
+            kept.licences(500, 1)
+
+    def test_as_many_as_a_mark_has(self):
+        mesh = Mesh.with_room(140, 140)
+        for cell in range(128):
+            mesh.insert(cell, Type.BAR, [0, cell + 1], self.LARGEST - cell)
+        kept = Journal.begin(mesh, edits=1)
+        self.assertEqual(kept.licences(0, 0), list(range(self.LARGEST - 127, self.LARGEST + 1)))
+
+
 class Days(unittest.TestCase):
     def test_the_map_on_any_day(self):
         mesh = triangles([0, 1, 2])
@@ -394,8 +489,8 @@ class Module(unittest.TestCase):
     def test_every_call_of_the_header_is_here(self):
         header = (ROOT / "include" / "mengkiloh.h").read_text()
         calls = set(re.findall(r"^uint(?:8|32)_t (mk_\w+)\(", header, re.M))
-        # those of an edition stand for both
-        self.assertEqual(calls, {*library.CALLS, "mk_version", "mk_format", "mk_build"})
+        # those of an edition, and that with a licence, stand for both
+        self.assertEqual(calls, {*library.CALLS, "mk_version", "mk_format", "mk_build", "mk_insert"})
 
     def test_what_the_docstrings_show(self):
         for module in (mengkiloh, journal):

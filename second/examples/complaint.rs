@@ -11,10 +11,10 @@ const POSITIONS: [i16; 27] = [
 fn main() -> Result<(), Refusal> {
     let mut map = Memory::lent(room(9, 8));
     map.format(9, 8)?;
-    map.insert(0, 2, &[0, 1, 2])?;
-    map.insert(1, 2, &[1, 3, 2])?;
-    map.insert(2, 2, &[2, 4, 5])?;
-    map.insert(3, 3, &[1, 2, 6, 7])?;
+    map.insert_licensed(0, 2, 12, &[0, 1, 2])?;
+    map.insert_licensed(1, 2, 12, &[1, 3, 2])?;
+    map.insert_licensed(2, 2, 31, &[2, 4, 5])?;
+    map.insert_licensed(3, 3, 77, &[1, 2, 6, 7])?;
     map.insert(4, 1, &[2, 8])?;
 
     tell(&map, 2)?;
@@ -35,7 +35,7 @@ fn main() -> Result<(), Refusal> {
         println!("cell {cell}: kind {kind}, measure {size}, centre {x:.2} {y:.2} {z:.2}");
     }
 
-    let morning = [2, 2, 1, 6, 1, 0, 8, 2, 2, 2, 0];
+    let morning = [2, 2, 1, 6, 1, 0, 0, 8, 2, 2, 2, 0];
     let mut tally = Tally::default();
     match map.edits(&morning, &mut tally) {
         Ok(made) => println!("{made} edits made"),
@@ -43,12 +43,23 @@ fn main() -> Result<(), Refusal> {
     }
     println!("{} accepted, {} refused", tally.accepted, tally.refused);
 
+    let mut harbour = Memory::lent(room(6, 4));
+    harbour.format_edition(6, 4, 2)?;
+    harbour.insert(0, 4, &[0, 1, 2, 3])?;
+    harbour.insert(1, 4, &[0, 2, 1, 4])?;
+    print!("edition {}: ", harbour.edition()?);
+    match harbour.insert(2, 4, &[0, 1, 2, 5]) {
+        Ok(()) => println!("three solids on a face"),
+        Err(refusal) => println!("a third solid is refused with {}", refusal.number()),
+    }
+
     let mut journal = Journal::lent(HEAD_WORDS + 1_000 * EDIT_WORDS);
     let mut start = Memory::lent(room(9, 8));
     journal.begin(&map, &mut start)?;
     let again = Edit::Insert {
         cell: 1,
         code: 2,
+        licence: 12,
         marks: vec![1, 3, 2],
     };
     journal.enter(&mut map, 100, again)?;
@@ -64,14 +75,9 @@ fn main() -> Result<(), Refusal> {
         Err(refusal) => println!("a fold is refused with {}", refusal.number()),
     }
 
-    let mut harbour = Memory::lent(room(6, 4));
-    harbour.format_edition(6, 4, 2)?;
-    harbour.insert(0, 4, &[0, 1, 2, 3])?;
-    harbour.insert(1, 4, &[0, 2, 1, 4])?;
-    print!("edition {}: ", harbour.edition()?);
-    match harbour.insert(2, 4, &[0, 1, 2, 5]) {
-        Ok(()) => println!("three solids on a face"),
-        Err(refusal) => println!("a third solid is refused with {}", refusal.number()),
+    for day in [129, 131] {
+        let licences = journal.licences(&start, day, 2, &mut then, 128)?;
+        println!("mark 2 on day {day}: ask the licences {licences:?}");
     }
     Ok(())
 }
@@ -79,7 +85,10 @@ fn main() -> Result<(), Refusal> {
 fn tell(map: &Memory, mark: u32) -> Result<(), Refusal> {
     for dimension in 1..=3 {
         let cells = map.star(dimension, mark, 128)?;
-        println!("mark {mark}, dimension {dimension}: cells {cells:?}");
+        let licences: Result<Vec<u32>, Refusal> =
+            cells.iter().map(|&cell| map.licence(cell)).collect();
+        let licences = licences?;
+        println!("mark {mark}, dimension {dimension}: cells {cells:?}, licences {licences:?}");
     }
     for anchor in map.anchors(2, mark, 128)? {
         let (cell, facet) = (anchor / 8, anchor % 8);

@@ -8,9 +8,9 @@
 //! before 11", request 4 "after 3 and 5, 6 for a solid without a measure, then
 //! 16 for a position list shorter than three numbers per mark". A list of edits,
 //! request 2's, has 14 first and then, at an edit's turn, 6 for its kind and 7 for
-//! a missing number or type. Numbers come in uncut, as whole 32-bit words. A half-facet is
-//! answered as its number; with a sibling, a walker's step and each entry of a
-//! cycle comes which way its sibling runs (request 6).
+//! a missing number, type or licence. Numbers come in uncut, as whole 32-bit words.
+//! A half-facet is answered as its number; with a sibling, a walker's step and each
+//! entry of a cycle comes which way its sibling runs (request 6).
 
 use crate::map::{self, Cell, HalfFacet, LiveCell, Mark, Way};
 use crate::positions::{self, Measure, Metres, NUMBERS_A_MARK};
@@ -156,20 +156,33 @@ impl Memory {
 
     /// "A build record is a cell number, a type code, then that type's marks.
     /// A record's checks run 7 for a missing number or code, then 3, 4, 6, 7, 8
-    /// and so on." Answers the words after the record. A record cut short is an
-    /// insert with too few marks, and one of unknown type has none to count.
+    /// and so on." "build records and listed edits give it after the type, and
+    /// missing it is 7 as there": the licence. Answers the words after the record.
+    /// A record cut short is an insert with too few marks, and one of unknown type
+    /// has none to count.
     fn insert_record<'a>(&mut self, words: &'a [u32]) -> Result<&'a [u32], Refusal> {
-        let [cell, code, left @ ..] = words else {
+        let [cell, code, licence, left @ ..] = words else {
             return Err(Refusal::CountWrong);
         };
         let due = type_with_code(*code).map_or(0, |row| row.marks);
         let (marks, after) = left.split_at(due.min(left.len()));
-        self.insert(*cell, *code, marks)?;
+        self.insert_licensed(*cell, *code, *licence, marks)?;
         Ok(after)
     }
 
-    /// Insert: 14, 3, 4, 6, 7, 8, 9, 10, 19, 11.
+    /// "Insert without one .. means 0."
     pub fn insert(&mut self, cell: u32, code: u32, marks: &[u32]) -> Result<(), Refusal> {
+        self.insert_licensed(cell, code, 0, marks)
+    }
+
+    /// Insert: 14, 3, 4, 6, 7, 8, 9, 10, 19, 11. None of them looks at the licence.
+    pub fn insert_licensed(
+        &mut self,
+        cell: u32,
+        code: u32,
+        licence: u32,
+        marks: &[u32],
+    ) -> Result<(), Refusal> {
         let mesh = self.held()?;
         let number = cell_below_capacity(mesh, cell)?;
         not_live(mesh, number)?;
@@ -180,7 +193,14 @@ impl Memory {
         no_same_cell(mesh, row, &marks)?;
         no_third_solid(mesh, number, row, &marks)?;
         no_full_mark(mesh, &marks)?;
-        self.change(|live| live.push(LiveCell { number, row, marks }));
+        self.change(|live| {
+            live.push(LiveCell {
+                number,
+                row,
+                licence,
+                marks,
+            })
+        });
         Ok(())
     }
 
@@ -216,7 +236,8 @@ impl Memory {
 
     /// "at an edit's turn, before its other checks, 6 for a kind neither insert
     /// nor remove, then 7 for a missing number or type; missing marks are 7 in
-    /// its place". Answers the words after the edit.
+    /// its place", and a missing licence is 7 as a missing type. Answers the words
+    /// after the edit.
     fn listed_edit<'a>(&mut self, words: &'a [u32]) -> Result<&'a [u32], Refusal> {
         match words {
             [INSERT, record @ ..] => self.insert_record(record),
@@ -257,6 +278,11 @@ impl Memory {
     /// The type code of a cell: 14, 3, 5.
     pub fn type_of(&self, cell: u32) -> Result<u32, Refusal> {
         Ok(self.queried_cell(cell)?.row.code)
+    }
+
+    /// The licence of a cell, "read back with type and marks": 14, 3, 5.
+    pub fn licence(&self, cell: u32) -> Result<u32, Refusal> {
+        Ok(self.queried_cell(cell)?.licence)
     }
 
     /// The marks of a live cell, in the order given at insertion; "where the
@@ -401,7 +427,9 @@ impl Memory {
         }
         mesh.live.iter().all(|cell| {
             let marks: Vec<u32> = cell.marks.iter().map(|mark| mark.0).collect();
-            afresh.insert(cell.number.0, cell.row.code, &marks).is_ok()
+            afresh
+                .insert_licensed(cell.number.0, cell.row.code, cell.licence, &marks)
+                .is_ok()
         })
     }
 
@@ -562,7 +590,13 @@ fn no_third_solid(
     marks: &[Mark],
 ) -> Result<(), Refusal> {
     let marks = marks.to_vec();
-    let faces = map::half_facets_of(&LiveCell { number, row, marks });
+    let licence = 0;
+    let faces = map::half_facets_of(&LiveCell {
+        number,
+        row,
+        licence,
+        marks,
+    });
     let third = faces
         .iter()
         .any(|face| map::solids_on(&mesh.live, &face.marks).len() >= SOLIDS_AT_A_FACE);

@@ -39,8 +39,9 @@ const SOLID_WORDS: usize = 16 + 8 * 12 + 32 * 4;
 /// A list room that no list of a case outgrows.
 const PLENTY: usize = 128;
 
-/// Cell number, type code, marks.
-type Record = (u32, u32, &'static [u32]);
+/// Cell number, type code, licence, marks. Cell 0 has no licence, cell 2 the
+/// largest, cells 1 and 3 have the same.
+type Record = (u32, u32, u32, &'static [u32]);
 
 enum Edit {
     Insert(Record),
@@ -60,98 +61,110 @@ const fn case(name: &'static str, built: &'static [Record], edits: &'static [Edi
     Case { name, built, edits }
 }
 
-const ONE: &[Record] = &[(0, TRI, &[0, 1, 2])];
+const ONE: &[Record] = &[(0, TRI, 0, &[0, 1, 2])];
 const THREE: &[Record] = &[
-    (0, TRI, &[0, 1, 2]),
-    (1, TRI, &[0, 1, 3]),
-    (2, TRI, &[0, 1, 4]),
+    (0, TRI, 0, &[0, 1, 2]),
+    (1, TRI, 7, &[0, 1, 3]),
+    (2, TRI, 4294967295, &[0, 1, 4]),
 ];
 const CLOSED: &[Record] = &[
-    (0, TRI, &[0, 2, 1]),
-    (1, TRI, &[0, 1, 3]),
-    (2, TRI, &[1, 2, 3]),
-    (3, TRI, &[2, 0, 3]),
+    (0, TRI, 0, &[0, 2, 1]),
+    (1, TRI, 7, &[0, 1, 3]),
+    (2, TRI, 4294967295, &[1, 2, 3]),
+    (3, TRI, 7, &[2, 0, 3]),
 ];
 
 const CASES: &[Case] = &[
     case("P1", &[], &[]),
     case("P2", ONE, &[]),
-    case("P3", &[(0, TRI, &[0, 1, 2]), (1, TRI, &[2, 1, 3])], &[]),
+    case(
+        "P3",
+        &[(0, TRI, 0, &[0, 1, 2]), (1, TRI, 7, &[2, 1, 3])],
+        &[],
+    ),
     case("P4", THREE, &[]),
-    case("P5", &[(0, TRI, &[0, 1, 2]), (1, TRI, &[0, 3, 4])], &[]),
+    case(
+        "P5",
+        &[(0, TRI, 0, &[0, 1, 2]), (1, TRI, 7, &[0, 3, 4])],
+        &[],
+    ),
     case(
         "P6",
-        &[(0, TETRA, &[0, 1, 2, 3]), (1, TETRA, &[0, 2, 1, 4])],
+        &[(0, TETRA, 0, &[0, 1, 2, 3]), (1, TETRA, 7, &[0, 2, 1, 4])],
         &[],
     ),
     case("P7", CLOSED, &[]),
-    case("P8", &[(0, BAR, &[0, 1]), (1, BAR, &[1, 2])], &[]),
+    case("P8", &[(0, BAR, 0, &[0, 1]), (1, BAR, 7, &[1, 2])], &[]),
     case("P9", THREE, &[Remove(1)]),
-    case("P10", ONE, &[Insert((1, TRI, &[2, 0, 1]))]),
-    case("P11", &[], &[Insert((0, TRI, &[0, 1, 1]))]),
+    case("P10", ONE, &[Insert((1, TRI, 7, &[2, 0, 1]))]),
+    case("P11", &[], &[Insert((0, TRI, 0, &[0, 1, 1]))]),
     case(
         "P12",
-        &[(0, TRI, &[0, 1, 2]), (1, TETRA, &[0, 1, 2, 3])],
+        &[(0, TRI, 0, &[0, 1, 2]), (1, TETRA, 7, &[0, 1, 2, 3])],
         &[],
     ),
-    case("R13", THREE, &[Remove(1), Insert((1, TRI, &[0, 1, 3]))]),
+    case("R13", THREE, &[Remove(1), Insert((1, TRI, 7, &[0, 1, 3]))]),
     case(
         "R14",
         &[
-            (0, QUAD, &[0, 1, 2, 3]),
-            (1, QUAD, &[1, 0, 3, 4]),
-            (2, TRI, &[0, 1, 4]),
+            (0, QUAD, 0, &[0, 1, 2, 3]),
+            (1, QUAD, 7, &[1, 0, 3, 4]),
+            (2, TRI, 4294967295, &[0, 1, 4]),
         ],
-        &[Insert((3, BAR, &[0, 1]))],
+        &[Insert((3, BAR, 7, &[0, 1]))],
     ),
     case("R15", CLOSED, &[Remove(0), Remove(3), Remove(1), Remove(2)]),
-    case("R16", &[(0, TRI, &[0, 1, 2]), (1, TETRA, &[0, 1, 2])], &[]),
+    case(
+        "R16",
+        &[(0, TRI, 0, &[0, 1, 2]), (1, TETRA, 7, &[0, 1, 2])],
+        &[],
+    ),
     case(
         "R17",
         ONE,
         &[
-            Insert((4, TRI, &[0, 1, 3])),
-            Insert((0, TRI, &[0, 1, 3])),
-            Insert((1, 8, &[0, 1, 3])),
-            Insert((1, TRI, &[0, 1])),
-            Insert((1, TRI, &[0, 1, 5])),
-            Insert((1, TRI, &[3, 4, 3])),
-            Insert((1, TRI, &[1, 2, 0])),
+            Insert((4, TRI, 5, &[0, 1, 3])),
+            Insert((0, TRI, 0, &[0, 1, 3])),
+            Insert((1, 8, 7, &[0, 1, 3])),
+            Insert((1, TRI, 7, &[0, 1])),
+            Insert((1, TRI, 7, &[0, 1, 5])),
+            Insert((1, TRI, 7, &[3, 4, 3])),
+            Insert((1, TRI, 7, &[1, 2, 0])),
             Remove(4),
             Remove(1),
         ],
     ),
     case(
         "R18",
-        &[(0, QUAD, &[0, 1, 2, 3]), (1, QUAD, &[0, 4, 1, 2])],
+        &[(0, QUAD, 0, &[0, 1, 2, 3]), (1, QUAD, 7, &[0, 4, 1, 2])],
         &[],
     ),
     case(
         "R19",
-        &[(0, QUAD, &[0, 1, 2, 3]), (1, QUAD, &[0, 1, 2, 4])],
+        &[(0, QUAD, 0, &[0, 1, 2, 3]), (1, QUAD, 7, &[0, 1, 2, 4])],
         &[],
     ),
     case(
         "R20",
         &[
-            (0, PYRA, &[0, 1, 2, 3, 4]),
-            (1, TETRA, &[0, 1, 4, 2]),
-            (2, QUAD, &[0, 1, 2, 3]),
+            (0, PYRA, 0, &[0, 1, 2, 3, 4]),
+            (1, TETRA, 7, &[0, 1, 4, 2]),
+            (2, QUAD, 4294967295, &[0, 1, 2, 3]),
         ],
         &[],
     ),
 ];
 
-const BRICK: Edit = Insert((0, HEXA, &[0, 1, 2, 3, 4, 5, 6, 7]));
-const WEDGE: Edit = Insert((1, PENTA, &[1, 2, 8, 5, 6, 9]));
-const PYRAMID: Edit = Insert((2, PYRA, &[2, 8, 9, 6, 10]));
-const END: Edit = Insert((3, TETRA, &[1, 2, 8, 11]));
+const BRICK: Edit = Insert((0, HEXA, 0, &[0, 1, 2, 3, 4, 5, 6, 7]));
+const WEDGE: Edit = Insert((1, PENTA, 7, &[1, 2, 8, 5, 6, 9]));
+const PYRAMID: Edit = Insert((2, PYRA, 4294967295, &[2, 8, 9, 6, 10]));
+const END: Edit = Insert((3, TETRA, 7, &[1, 2, 8, 11]));
 
 const SOLIDS: &[Case] = &[
     case(
         "R21",
         &[],
-        &[BRICK, Insert((1, HEXA, &[4, 5, 6, 7, 8, 9, 10, 11]))],
+        &[BRICK, Insert((1, HEXA, 7, &[4, 5, 6, 7, 8, 9, 10, 11]))],
     ),
     case("R22", &[], &[BRICK, WEDGE, PYRAMID, END]),
     case(
@@ -159,8 +172,8 @@ const SOLIDS: &[Case] = &[
         &[],
         &[
             BRICK,
-            Insert((1, HEXA, &[4, 6, 5, 7, 8, 9, 10, 11])),
-            Insert((2, PYRA, &[7, 4, 6, 5, 8])),
+            Insert((1, HEXA, 7, &[4, 6, 5, 7, 8, 9, 10, 11])),
+            Insert((2, PYRA, 4294967295, &[7, 4, 6, 5, 8])),
         ],
     ),
     case("R24", &[], &[BRICK, WEDGE, PYRAMID, END, Remove(1)]),
@@ -168,13 +181,13 @@ const SOLIDS: &[Case] = &[
 
 /// Under edition 2.
 const LIMITED: &[Case] = &[
-    case("R26", THREE, &[Insert((3, QUAD, &[0, 1, 2, 3]))]),
+    case("R26", THREE, &[Insert((3, QUAD, 7, &[0, 1, 2, 3]))]),
     case(
         "R27",
         &[
-            (0, TETRA, &[0, 1, 2, 3]),
-            (1, TETRA, &[0, 2, 1, 4]),
-            (2, PYRA, &[0, 1, 3, 4, 2]),
+            (0, TETRA, 0, &[0, 1, 2, 3]),
+            (1, TETRA, 7, &[0, 2, 1, 4]),
+            (2, PYRA, 4294967295, &[0, 1, 3, 4, 2]),
         ],
         &[],
     ),
@@ -186,20 +199,20 @@ const LIMITED_SOLIDS: &[Case] = &[
         &[],
         &[
             BRICK,
-            Insert((1, HEXA, &[4, 6, 5, 7, 8, 9, 10, 11])),
-            Insert((2, PYRA, &[7, 4, 6, 5, 8])),
+            Insert((1, HEXA, 7, &[4, 6, 5, 7, 8, 9, 10, 11])),
+            Insert((2, PYRA, 4294967295, &[7, 4, 6, 5, 8])),
         ],
     ),
     case(
         "R29",
         &[],
         &[
-            Insert((0, TETRA, &[0, 1, 2, 3])),
-            Insert((1, PYRA, &[0, 1, 4, 5, 2])),
-            Insert((2, PENTA, &[2, 0, 1, 6, 7, 8])),
-            Insert((2, TRI, &[0, 1, 2])),
+            Insert((0, TETRA, 0, &[0, 1, 2, 3])),
+            Insert((1, PYRA, 7, &[0, 1, 4, 5, 2])),
+            Insert((2, PENTA, 4294967295, &[2, 0, 1, 6, 7, 8])),
+            Insert((2, TRI, 4294967295, &[0, 1, 2])),
             Remove(0),
-            Insert((3, PENTA, &[2, 0, 1, 6, 7, 8])),
+            Insert((3, PENTA, 7, &[2, 0, 1, 6, 7, 8])),
         ],
     ),
     case(
@@ -208,10 +221,10 @@ const LIMITED_SOLIDS: &[Case] = &[
         &[
             BRICK,
             WEDGE,
-            Insert((2, PYRA, &[6, 1, 5, 2, 10])),
-            Insert((2, HEXA, &[7, 6, 5, 4, 3, 2, 1, 0])),
+            Insert((2, PYRA, 4294967295, &[6, 1, 5, 2, 10])),
+            Insert((2, HEXA, 4294967295, &[7, 6, 5, 4, 3, 2, 1, 0])),
             Remove(0),
-            Insert((2, PYRA, &[6, 1, 5, 2, 10])),
+            Insert((2, PYRA, 4294967295, &[6, 1, 5, 2, 10])),
             BRICK,
         ],
     ),
@@ -222,24 +235,28 @@ const LIMITED_SOLIDS: &[Case] = &[
 const WAYS: &[Case] = &[
     case(
         "R31",
-        &[(0, BAR, &[0, 1]), (1, BAR, &[0, 2]), (2, BAR, &[3, 0])],
+        &[
+            (0, BAR, 0, &[0, 1]),
+            (1, BAR, 7, &[0, 2]),
+            (2, BAR, 4294967295, &[3, 0]),
+        ],
         &[],
     ),
     case(
         "R32",
         &[
-            (0, TRI, &[0, 1, 2]),
-            (1, TRI, &[3, 0, 1]),
-            (2, TRI, &[1, 0, 4]),
+            (0, TRI, 0, &[0, 1, 2]),
+            (1, TRI, 7, &[3, 0, 1]),
+            (2, TRI, 4294967295, &[1, 0, 4]),
         ],
-        &[Remove(1), Insert((1, TRI, &[3, 1, 0]))],
+        &[Remove(1), Insert((1, TRI, 7, &[3, 1, 0]))],
     ),
     case(
         "R33",
         &[
-            (0, TETRA, &[0, 1, 2, 3]),
-            (1, TETRA, &[1, 2, 0, 4]),
-            (2, PYRA, &[0, 1, 4, 3, 2]),
+            (0, TETRA, 0, &[0, 1, 2, 3]),
+            (1, TETRA, 7, &[1, 2, 0, 4]),
+            (2, PYRA, 4294967295, &[0, 1, 4, 3, 2]),
         ],
         &[],
     ),
@@ -250,9 +267,9 @@ const WAYS_OF_SOLIDS: &[Case] = &[case(
     &[],
     &[
         BRICK,
-        Insert((1, PYRA, &[7, 6, 5, 4, 8])),
-        Insert((2, PYRA, &[7, 4, 6, 5, 9])),
-        Insert((3, HEXA, &[4, 5, 6, 7, 8, 9, 10, 11])),
+        Insert((1, PYRA, 7, &[7, 6, 5, 4, 8])),
+        Insert((2, PYRA, 4294967295, &[7, 4, 6, 5, 9])),
+        Insert((3, HEXA, 7, &[4, 5, 6, 7, 8, 9, 10, 11])),
     ],
 )];
 
@@ -264,22 +281,24 @@ const MOST: u32 = u32::MAX;
 #[rustfmt::skip]
 const MORNINGS: &[Morning] = &[
     (0, 0, &[]),
-    (0, 0, &[1, 0, 2, 0, 1, 2, 1, 1, 2, 2, 1, 3, 2, 0]),
-    (3, 0, &[2, 1, 2, 1, 1, 0, 2, 0, 1, 2]),
-    (4, 1, &[1, 0, 2, 0, 1, 2, 3, 1]),
+    (0, 0, &[1, 0, 2, 0, 0, 1, 2, 1, 1, 2, 7, 2, 1, 3, 2, 0]),
+    (3, 0, &[2, 1, 2, 1, 1, 0, 2, 0, 0, 1, 2]),
+    (4, 1, &[1, 0, 2, 9, 0, 1, 2, 3, 1]),
     (5, 2, &[0]),
     (5, 2, &[2]),
     (5, 2, &[1]),
     (5, 2, &[1, 1]),
+    (5, 2, &[1, 1, 2]),
     (5, 2, &[1, 1, 8]),
-    (5, 2, &[1, 9, 2]),
-    (5, 2, &[1, 0, 2]),
-    (5, 2, &[1, 1, 2, 0, 1]),
-    (5, 2, &[1, 1, 2, 2, 1, 0]),
-    (5, 2, &[1, 1, 3, 0, 1, 2, 3, 2, 0, 1, 0, 4, 0, 1, 2, 3]),
+    (5, 2, &[1, 1, 8, 7]),
+    (5, 2, &[1, 9, 2, 7]),
+    (5, 2, &[1, 0, 2, 7]),
+    (5, 2, &[1, 1, 2, 7, 0, 1]),
+    (5, 2, &[1, 1, 2, 7, 2, 1, 0]),
+    (5, 2, &[1, 1, 3, 7, 0, 1, 2, 3, 2, 0, 1, 0, 4, MOST, 0, 1, 2, 3]),
     (MOST - 1, MOST - 1, &[2, 0, 2, 1, 2, 1]),
-    (MOST, MOST, &[1, 0, 2, 0, 1, 2, 2, 3]),
-    (MOST - 1, MOST, &[1, 1, 2, 0, 1, 3]),
+    (MOST, MOST, &[1, 0, 2, 0, 0, 1, 2, 2, 3]),
+    (MOST - 1, MOST, &[1, 1, 2, 7, 0, 1, 3]),
 ];
 
 /// Of memory that is no mesh.
@@ -411,8 +430,8 @@ impl Text {
         let name = case.name;
         let mut memory = Memory::lent(words);
         let mut words = Vec::new();
-        for &(cell, code, marks) in case.built {
-            words.extend([cell, code]);
+        for &(cell, code, licence, marks) in case.built {
+            words.extend([cell, code, licence]);
             words.extend(marks);
         }
         let built = match memory.build_edition(marks, CELLS, edition, &words) {
@@ -428,11 +447,18 @@ impl Text {
 
     fn edit(&mut self, name: &str, memory: &mut Memory, edit: &Edit) {
         match *edit {
-            Insert((cell, code, marks)) => {
+            Insert((cell, code, 0, marks)) => {
                 let answer = memory.insert(cell, code, marks).says();
                 let marks = marks.to_vec().says();
                 self.line(format!(
                     "{name} insert {cell} type {code} marks {marks}: {answer}"
+                ));
+            }
+            Insert((cell, code, licence, marks)) => {
+                let answer = memory.insert_licensed(cell, code, licence, marks).says();
+                let marks = marks.to_vec().says();
+                self.line(format!(
+                    "{name} insert {cell} type {code} licence {licence} marks {marks}: {answer}"
                 ));
             }
             Remove(cell) => {
@@ -538,10 +564,12 @@ impl Text {
 
     fn cell(&mut self, name: &str, memory: &Memory, cell: u32) {
         let code = memory.type_of(cell).says();
+        let licence = memory.licence(cell).says();
         let marks = memory.marks_of(cell).says();
         let neighbours = memory.neighbours(cell, PLENTY).says();
         self.line(format!(
-            "{name} cell {cell}: type {code}, marks {marks}, neighbours {neighbours}"
+            "{name} cell {cell}: \
+             type {code}, licence {licence}, marks {marks}, neighbours {neighbours}"
         ));
         for facet in 0..=6 {
             let sibling = memory.sibling(cell, facet).says();

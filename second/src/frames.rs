@@ -186,6 +186,8 @@ impl Frame {
                     edit: Edit::Insert {
                         cell: number(c0, c1),
                         code: code.into(),
+                        // "Insert without one, as in the frame program .., means 0."
+                        licence: 0,
                         marks: pairs.map(|pair| number(pair[0], pair[1])).collect(),
                     },
                 })

@@ -24,6 +24,7 @@ pub enum Edit {
     Insert {
         cell: u32,
         code: u32,
+        licence: u32,
         marks: Vec<u32>,
     },
     Remove {
@@ -164,7 +165,12 @@ fn of_mesh<B: std::borrow::Borrow<Book>>(book: Option<B>, mesh: &Memory) -> Resu
 /// The edit, as the mesh's own call makes it.
 fn make(memory: &mut Memory, edit: &Edit) -> Result<(), Refusal> {
     match edit {
-        Edit::Insert { cell, code, marks } => memory.insert(*cell, *code, marks),
+        Edit::Insert {
+            cell,
+            code,
+            licence,
+            marks,
+        } => memory.insert_licensed(*cell, *code, *licence, marks),
         Edit::Remove { cell } => memory.remove(*cell),
     }
 }

@@ -12,6 +12,7 @@
 //! - [`cases`]: the outline's cases, with every answer, as text.
 //! - [`off`]: surfaces in and out as OFF text.
 //! - [`journal`]: the map on any day: edits with their days, begun, entered, asked, folded.
+//! - [`matcher`]: the licences to ask, for a mark and a day.
 //! - [`frames`]: the frame program, from input bytes to output bytes.
 
 #![forbid(unsafe_code)]
@@ -21,6 +22,7 @@ pub mod cases;
 pub mod frames;
 pub mod journal;
 pub mod map;
+pub mod matcher;
 pub mod off;
 pub mod positions;
 pub mod refusal;

@@ -21,6 +21,8 @@ pub struct LiveCell {
     pub number: Cell,
     /// Its row of the type table.
     pub row: &'static Type,
+    /// "a licence number of 32 bits, given at insertion"; 0 without one.
+    pub licence: u32,
     /// In the order given, as many as the row says.
     pub marks: Vec<Mark>,
 }

@@ -156,12 +156,13 @@ pub fn text(marks: u32, positions: &[i16], faces: &[Vec<u32>]) -> Vec<u8> {
         .collect()
 }
 
-/// A face as a build record: "faces cells 0, 1, 2 in file order".
+/// A face as a build record: "faces cells 0, 1, 2 in file order", with licence 0,
+/// as "for a face read from OFF".
 fn record(number: usize, face: &[u32]) -> Vec<u32> {
     let name = if face.len() == 3 { TRIANGLE } else { QUAD };
     let row = crate::shapes::TYPES.iter().find(|row| row.name == name);
     let code = row.expect("the type is in the table").code;
-    [&[number as u32, code], face].concat()
+    [&[number as u32, code, 0], face].concat()
 }
 
 impl Memory {

@@ -6,6 +6,7 @@ mod common;
 
 use common::maps::{BAR, HEXA, PENTA, PYRA, QUAD, TETRA, TRI};
 use second::calls::{INSERT, REMOVE};
+use second::journal::{Edit, Journal, EDIT_WORDS, HEAD_WORDS};
 use second::positions::{float, Metres};
 use second::{room, Memory, Refusal, Tally};
 use std::fmt::Write;
@@ -18,40 +19,41 @@ const WALL: [u32; 3] = [0, 5, 10];
 /// The hillside, the deck's two sides, the pier's wall, the rail, the rock, the
 /// pier's block, the pier, the ramp.
 #[rustfmt::skip]
-const RECORDS: [u32; 71] = [
-    0, TRI, 0, 1, 2,
-    1, TRI, 0, 2, 3,
-    2, TRI, 0, 3, 4,
-    3, QUAD, 0, 5, 6, 7,
-    4, QUAD, 5, 0, 8, 9,
-    5, TRI, 0, 5, 10,
-    6, BAR, 0, 5,
-    7, BAR, 5, 11,
-    8, TETRA, 0, 1, 2, 11,
-    10, HEXA, 12, 13, 14, 15, 16, 17, 18, 19,
-    11, PYRA, 16, 17, 18, 19, 5,
-    12, PENTA, 13, 14, 20, 17, 18, 21,
+const RECORDS: [u32; 83] = [
+    0, TRI, 71, 0, 1, 2,
+    1, TRI, 71, 0, 2, 3,
+    2, TRI, 71, 0, 3, 4,
+    3, QUAD, 72, 0, 5, 6, 7,
+    4, QUAD, 72, 5, 0, 8, 9,
+    5, TRI, 72, 0, 5, 10,
+    6, BAR, 0, 0, 5,
+    7, BAR, 0, 5, 11,
+    8, TETRA, 71, 0, 1, 2, 11,
+    10, HEXA, 73, 12, 13, 14, 15, 16, 17, 18, 19,
+    11, PYRA, 73, 16, 17, 18, 19, 5,
+    12, PENTA, 73, 13, 14, 20, 17, 18, 21,
 ];
 
-const CUT_SHORT: [u32; 9] = [0, TRI, 0, 1, 2, 1, TRI, 0, 2];
+const CUT_SHORT: [u32; 11] = [0, TRI, 71, 0, 1, 2, 1, TRI, 71, 0, 2];
 
 /// Three solids on the face between the block and the pier.
 #[rustfmt::skip]
-const THIRD: [u32; 24] = [
-    10, HEXA, 12, 13, 14, 15, 16, 17, 18, 19,
-    11, PYRA, 16, 17, 18, 19, 5,
-    12, PYRA, 16, 18, 17, 19, 11,
+const THIRD: [u32; 27] = [
+    10, HEXA, 73, 12, 13, 14, 15, 16, 17, 18, 19,
+    11, PYRA, 73, 16, 17, 18, 19, 5,
+    12, PYRA, 73, 16, 18, 17, 19, 11,
 ];
 const OTHER_PIER: [u32; 5] = [16, 18, 17, 19, 11];
 
 /// Lists of edits.
-const MORNING: &[u32] = &[REMOVE, 4, REMOVE, 1, INSERT, 9, BAR, 6, 10, REMOVE, 5];
-const STOPPED: &[u32] = &[INSERT, 4, QUAD, 5, 0, 8, 9, REMOVE, 1, REMOVE, 9];
+const MORNING: &[u32] = &[REMOVE, 4, REMOVE, 1, INSERT, 9, BAR, 9, 6, 10, REMOVE, 5];
+const STOPPED: &[u32] = &[INSERT, 4, QUAD, 72, 5, 0, 8, 9, REMOVE, 1, REMOVE, 9];
 const OTHER_KIND: &[u32] = &[REMOVE, 9, 3, 1];
 const NO_NUMBER: &[u32] = &[REMOVE];
 const NO_TYPE: &[u32] = &[INSERT, 1];
-const FEW_MARKS: &[u32] = &[INSERT, 1, TRI, 0, 2];
-const BACK: &[u32] = &[INSERT, 1, TRI, 0, 2, 3, INSERT, 5, TRI, 0, 5, 10];
+const NO_LICENCE: &[u32] = &[INSERT, 1, TRI];
+const FEW_MARKS: &[u32] = &[INSERT, 1, TRI, 71, 0, 2];
+const BACK: &[u32] = &[INSERT, 1, TRI, 71, 0, 2, 3, INSERT, 5, TRI, 72, 0, 5, 10];
 
 #[test]
 fn the_example_in_c_prints_what_the_definitions_answer() {
@@ -85,11 +87,12 @@ fn text() -> String {
     lines.verdict("insert 9", memory.insert(9, TRI, &WALL));
     lines.verdict("insert 9", memory.insert(9, QUAD, &WALL));
     lines.verdict("remove 5", memory.remove(5));
-    lines.verdict("insert 9", memory.insert(9, TRI, &WALL));
+    lines.verdict("insert 9", memory.insert_licensed(9, TRI, 9, &WALL));
     lines.all(&memory);
     lines.second_edition(&mut memory);
     lines.all_placed(&memory);
     lines.mornings(&mut memory);
+    lines.complaints(&mut memory);
     lines.0
 }
 
@@ -205,10 +208,58 @@ impl Lines {
         self.edits(memory, OTHER_KIND, 5, 1);
         self.edits(memory, NO_NUMBER, 6, 2);
         self.edits(memory, NO_TYPE, 6, 3);
+        self.edits(memory, NO_LICENCE, 6, 4);
         self.edits(memory, FEW_MARKS, u32::MAX, u32::MAX);
         self.all(memory);
         self.edits(memory, BACK, u32::MAX - 1, 9);
         self.whole(memory);
+    }
+
+    fn complaints(&mut self, memory: &mut Memory) {
+        let words = room(MARKS, CELLS);
+        let mut journal = Journal::lent(HEAD_WORDS + 3 * EDIT_WORDS);
+        let (mut start, mut second) = (Memory::lent(words), Memory::lent(words));
+        let stay = Edit::Insert {
+            cell: 9,
+            code: BAR,
+            licence: 4,
+            marks: vec![5, 10],
+        };
+        let removal = |cell| Edit::Remove { cell };
+        self.complaint(&journal, &start, &mut second, (0, 5, 0, PLACES));
+        self.verdict("begin", journal.begin(memory, &mut start));
+        self.verdict("enter insert", journal.enter(memory, 10, stay.clone()));
+        self.verdict("enter insert", journal.enter(memory, 10, stay));
+        self.verdict("enter remove", journal.enter(memory, 40, removal(11)));
+        self.verdict("enter remove", journal.enter(memory, 500, removal(9)));
+        self.verdict("enter remove", journal.enter(memory, 500, removal(8)));
+        self.verdict("fold", journal.fold(&mut start, 30));
+        for asked in [
+            (29, MARKS, 1, 0),
+            (30, MARKS, 1, 0),
+            (30, MARKS, 0, 0),
+            (39, 5, 0, 2),
+            (501, 5, 0, PLACES),
+            (39, 5, 0, 3),
+            (41, 5, 0, 2),
+        ] {
+            self.complaint(&journal, &start, &mut second, asked);
+        }
+    }
+
+    /// A day, a mark, by how many words second memory is short, and the places.
+    fn complaint(
+        &mut self,
+        journal: &Journal,
+        start: &Memory,
+        second: &mut Memory,
+        (day, mark, short, places): (u32, u32, usize, usize),
+    ) {
+        second.words -= short;
+        let answer = journal.licences(start, day, mark, second, places);
+        second.words += short;
+        self.list(&format!("licences {day} {mark}"), answer);
+        self.say("second", second.whole().into(), &[]);
     }
 
     fn star(&mut self, memory: &Memory, dimension: u32, mark: u32, room: usize) {
@@ -227,6 +278,7 @@ impl Lines {
     fn cell(&mut self, memory: &Memory, cell: u32) {
         let answer = memory.type_of(cell);
         self.one(&format!("type {cell}"), answer);
+        self.one(&format!("licence {cell}"), memory.licence(cell));
         let marks = answer.map(|_| memory.marks_of(cell));
         self.list(&format!("marks {cell}"), marks);
         let neighbours = memory.neighbours(cell, PLACES);

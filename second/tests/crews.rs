@@ -36,14 +36,18 @@ impl Edit {
 
     fn call(&self, memory: &mut Memory) -> Result<(), Refusal> {
         match self {
-            Insert(cell, code, marks) => memory.insert(*cell, *code, marks),
+            Insert(cell, code, marks) => {
+                memory.insert_licensed(*cell, *code, licence_of(*cell), marks)
+            }
             Remove(cell) => memory.remove(*cell),
         }
     }
 
     fn words(&self) -> Vec<u32> {
         match self {
-            Insert(cell, code, marks) => [&[1, *cell, *code], &marks[..]].concat(),
+            Insert(cell, code, marks) => {
+                [&[1, *cell, *code, licence_of(*cell)], &marks[..]].concat()
+            }
             Remove(cell) => vec![2, *cell],
         }
     }

@@ -24,7 +24,10 @@ fn the_edition_is_kept() {
         assert_eq!(memory.insert(0, TRI, &[0, 1, 2]), Ok(()));
         assert_eq!(memory.remove(0), Ok(()));
         assert_eq!(memory.edition(), Ok(edition));
-        assert_eq!(memory.build_edition(6, 4, edition, &[0, BAR, 0, 1]), Ok(()));
+        assert_eq!(
+            memory.build_edition(6, 4, edition, &[0, BAR, 7, 0, 1]),
+            Ok(())
+        );
         assert_eq!(memory.edition(), Ok(edition));
         assert!(memory.whole());
     }
@@ -138,7 +141,8 @@ fn third_of(solids: &[Record; 3], face: &[u32]) {
         for (out, stays) in [(one, other), (other, one)] {
             let mut memory = memory.clone();
             assert_eq!(memory.remove(out.0), Ok(()));
-            assert_eq!(memory.insert(third.0, third.1, third.2), Ok(()));
+            let taken = memory.insert_licensed(third.0, third.1, licence_of(third.0), third.2);
+            assert_eq!(taken, Ok(()));
             assert_eq!(memory.insert(out.0, out.1, out.2), THIRD);
             let due = mesh_edition(12, 4, 2, &[third, stays]);
             assert_eq!(answers(&memory), answers(&due));

@@ -29,14 +29,18 @@ use Edit::{Insert, Remove};
 impl Edit {
     fn words(&self) -> Vec<u32> {
         match self {
-            Insert(cell, code, marks) => [&[1, *cell, *code], &marks[..]].concat(),
+            Insert(cell, code, marks) => {
+                [&[1, *cell, *code, licence_of(*cell)], &marks[..]].concat()
+            }
             Remove(cell) => vec![2, *cell],
         }
     }
 
     fn call(&self, memory: &mut Memory) -> Result<(), Refusal> {
         match self {
-            Insert(cell, code, marks) => memory.insert(*cell, *code, marks),
+            Insert(cell, code, marks) => {
+                memory.insert_licensed(*cell, *code, licence_of(*cell), marks)
+            }
             Remove(cell) => memory.remove(*cell),
         }
     }
@@ -99,7 +103,7 @@ fn memory_that_is_no_mesh() {
     let mut shortened = p4();
     shortened.words -= 1;
     for memory in [Memory::lent(0), Memory::lent(1000), shortened] {
-        for list in [&[][..], &[2, 0], &[3], &[1], &[1, 0, BAR, 0, 1, 2, 0]] {
+        for list in [&[][..], &[2, 0], &[3], &[1], &[1, 0, BAR, 7, 0, 1, 2, 0]] {
             let (answer, after, tally) = called(&memory, list);
             assert_eq!(answer, Err((Refusal::NotMesh, 0)));
             assert_eq!(after, memory);
@@ -156,38 +160,40 @@ fn an_inserts_6_7_3_4_6_7_8_9_10_19_11() {
     let kinds: [Choice<u32>; 4] = [(1, &[]), (0, &[KIND]), (3, &[KIND]), (257, &[KIND])];
     let cells: [Choice<u32>; 3] = [(150, &[]), (ABOVE_ALL, &[3]), (0, &[4])];
     let rest: Vec<Choice<&[u32]>> = vec![
-        (&[TRI, 3, 4, 5], &[]),
+        (&[TRI, 7, 3, 4, 5], &[]),
         (&[], &[MISSING]),
-        (&[258, 3, 4, 5], &[6]),
-        (&[TRI, 3, 4], &[7]),
-        (&[TRI], &[7]),
-        (&[TRI, 3, 4, ABOVE_ALL], &[8]),
-        (&[TRI, 3, 4, 4], &[9]),
-        (&[TRI, 2, 0, 1], &[10]),
-        (&[TETRA, 160, 161, 162, 170], &[19]),
-        (&[TRI, 3, 4, 10], &[11]),
-        (&[258], &[6, 7]),
-        (&[258, 3, 4, ABOVE_ALL], &[6, 8]),
-        (&[258, 3, 3, 4], &[6, 9]),
-        (&[258, 10, 4, 5], &[6, 11]),
-        (&[TRI, ABOVE_ALL, 4], &[7, 8]),
-        (&[TRI, 3, 3], &[7, 9]),
-        (&[TETRA, 160, 161, 162], &[7, 19]),
-        (&[TRI, 10, 3], &[7, 11]),
-        (&[TRI, 3, 3, ABOVE_ALL], &[8, 9]),
-        (&[TETRA, 160, 161, 162, ABOVE_ALL], &[8, 19]),
-        (&[TRI, 10, 3, ABOVE_ALL], &[8, 11]),
-        (&[TETRA, 160, 161, 162, 160], &[9, 19]),
-        (&[TRI, 10, 3, 3], &[9, 11]),
-        (&[TETRA, 163, 162, 161, 160], &[10, 19]),
-        (&[BAR, 30, 10], &[10, 11]),
-        (&[TETRA, 10, 165, 166, 170], &[19, 11]),
+        (&[TRI], &[MISSING]),
+        (&[258], &[MISSING, 6]),
+        (&[258, 7, 3, 4, 5], &[6]),
+        (&[TRI, 7, 3, 4], &[7]),
+        (&[TRI, 7], &[7]),
+        (&[TRI, 7, 3, 4, ABOVE_ALL], &[8]),
+        (&[TRI, 7, 3, 4, 4], &[9]),
+        (&[TRI, 7, 2, 0, 1], &[10]),
+        (&[TETRA, 7, 160, 161, 162, 170], &[19]),
+        (&[TRI, 7, 3, 4, 10], &[11]),
+        (&[258, 7], &[6, 7]),
+        (&[258, 7, 3, 4, ABOVE_ALL], &[6, 8]),
+        (&[258, 7, 3, 3, 4], &[6, 9]),
+        (&[258, 7, 10, 4, 5], &[6, 11]),
+        (&[TRI, 7, ABOVE_ALL, 4], &[7, 8]),
+        (&[TRI, 7, 3, 3], &[7, 9]),
+        (&[TETRA, 7, 160, 161, 162], &[7, 19]),
+        (&[TRI, 7, 10, 3], &[7, 11]),
+        (&[TRI, 7, 3, 3, ABOVE_ALL], &[8, 9]),
+        (&[TETRA, 7, 160, 161, 162, ABOVE_ALL], &[8, 19]),
+        (&[TRI, 7, 10, 3, ABOVE_ALL], &[8, 11]),
+        (&[TETRA, 7, 160, 161, 162, 160], &[9, 19]),
+        (&[TRI, 7, 10, 3, 3], &[9, 11]),
+        (&[TETRA, 7, 163, 162, 161, 160], &[10, 19]),
+        (&[BAR, 7, 30, 10], &[10, 11]),
+        (&[TETRA, 7, 10, 165, 166, 170], &[19, 11]),
     ];
     let memories: [Choice<Memory>; 2] = [
         (with_full_face(), &[]),
         (Memory::lent(room(200, 200)), &[14]),
     ];
-    let before = [1, 151, BAR, 198, 199];
+    let before = [1, 151, BAR, 7, 198, 199];
     for (memory, of_memory) in &memories {
         for (kind, of_kind) in kinds {
             for (cell, of_cell) in cells {
@@ -213,7 +219,7 @@ fn an_inserts_6_7_3_4_6_7_8_9_10_19_11() {
         }
     }
     const NO_LIVE_CELL: &str = "without a mesh no cell is live";
-    const NO_TYPE: &str = "an edit without its type has no marks";
+    const NO_TYPE: &str = "an edit without its type or its licence has no marks";
     const LIVE_IS_BELOW: &str = "a live number is below the capacity";
     const UNKNOWN: &str = "an unknown type has no live cell and no faces";
     const TOO_FEW: &str = "a list cut short has fewer marks than a live cell of its type";
@@ -223,7 +229,6 @@ fn an_inserts_6_7_3_4_6_7_8_9_10_19_11() {
         (14, 10, NO_LIVE_CELL),
         (14, 19, NO_LIVE_CELL),
         (14, 11, NO_LIVE_CELL),
-        (MISSING, 6, NO_TYPE),
         (MISSING, 7, NO_TYPE),
         (MISSING, 8, NO_TYPE),
         (MISSING, 9, NO_TYPE),
@@ -270,11 +275,15 @@ fn a_removals_6_7_3_5() {
 fn a_record_cut_short_is_checked_in_its_place() {
     let memory = p2();
     for (list, due) in [
-        (&[1, 4, TRI, 0][..], Refusal::CellOutside),
-        (&[1, 0, TRI, 0], Refusal::CellLive),
-        (&[1, 1, 9], Refusal::TypeUnknown),
-        (&[1, 1, TRI, 0, 99], Refusal::CountWrong),
-        (&[1, 1, TRI, 0, 1, 99], Refusal::MarkOutside),
+        (&[1, 4, TRI, 7, 0][..], Refusal::CellOutside),
+        (&[1, 0, TRI, 7, 0], Refusal::CellLive),
+        (&[1, 1, 9, 7], Refusal::TypeUnknown),
+        (&[1, 1, TRI, 7, 0, 99], Refusal::CountWrong),
+        (&[1, 1, TRI, 7, 0, 1, 99], Refusal::MarkOutside),
+        // without its licence it is 7 before all of them
+        (&[1, 4, TRI], Refusal::CountWrong),
+        (&[1, 0, TRI], Refusal::CountWrong),
+        (&[1, 1, 9], Refusal::CountWrong),
     ] {
         let (answer, after, _) = called(&memory, list);
         assert_eq!(answer, Err((due, 0)), "{list:?}");
@@ -329,9 +338,9 @@ fn a_list_refused_at_every_place() {
         (&[3, 0], Refusal::TypeUnknown),
         (&[2, 3], Refusal::CellNotLive),
         (&[2, 4], Refusal::CellOutside),
-        (&[1, 2, 8], Refusal::TypeUnknown),
-        (&[1, 2, BAR, 1, 1], Refusal::MarkTwice),
-        (&[1, 2, BAR, 1, 9], Refusal::MarkOutside),
+        (&[1, 2, 8, 7], Refusal::TypeUnknown),
+        (&[1, 2, BAR, 7, 1, 1], Refusal::MarkTwice),
+        (&[1, 2, BAR, 7, 1, 9], Refusal::MarkOutside),
     ];
     for place in 0..=edits.len() {
         for (words, refusal) in bad {

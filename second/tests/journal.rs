@@ -55,6 +55,7 @@ fn triangle(cell: u32) -> Edit {
     Edit::Insert {
         cell,
         code: TRIANGLE,
+        licence: 7 + cell,
         marks: vec![cell % 4, 4, 5],
     }
 }

@@ -151,7 +151,7 @@ fn read_written_and_read_again() {
             let size = 3 + random.below(2);
             let face = random.marks(marks, size);
             // some are refused: then a number is left out
-            let _ = memory.insert(cell, size as u32 - 1, &face);
+            let _ = memory.insert_licensed(cell, size as u32 - 1, random.below(3) as u32, &face);
         }
         let written = memory.write_off(&positions, 10_000).expect("faces alone");
         let surface = read(&written).expect("ours is of the form");
@@ -163,6 +163,8 @@ fn read_written_and_read_again() {
             .collect();
         let left = (0..cells).map(|cell| memory.marks_of(cell));
         assert!(left.filter(|face| !face.is_empty()).eq(faces));
+        // OFF has no place for a licence
+        assert!((0..surface.cells).all(|cell| again.licence(cell) == Ok(0)));
         assert_eq!(again.write_off(&found, 10_000), Ok(written));
     }
 }

@@ -244,40 +244,42 @@ fn insert_under_edition_2_3_4_6_7_8_9_10_19_11() {
 /// The words of a last record after its number.
 fn after_the_number() -> Vec<Choice<&'static [u32]>> {
     vec![
-        (&[TRI, 3, 4, 5], &[]),
+        (&[TRI, 7, 3, 4, 5], &[]),
         (&[], &[MISSING]),
-        (&[258, 3, 4, 5], &[6]),
-        (&[TRI, 3, 4], &[7]),
-        (&[TRI], &[7]),
-        (&[TRI, 3, 4, ABOVE_ALL], &[8]),
-        (&[TRI, 3, 4, 4], &[9]),
-        (&[TRI, 2, 0, 1], &[10]),
-        (&[TRI, 3, 4, 10], &[11]),
-        // An unknown type is 6 whatever follows it, also nothing.
-        (&[258], &[6, 7]),
-        (&[258, 3, 4, ABOVE_ALL], &[6, 8]),
-        (&[258, 3, 3, 4], &[6, 9]),
-        (&[258, 10, 4, 5], &[6, 11]),
-        (&[TRI, ABOVE_ALL, 4], &[7, 8]),
-        (&[TRI, 3, 3], &[7, 9]),
-        (&[TRI, 10, 3], &[7, 11]),
-        (&[TRI, 3, 3, ABOVE_ALL], &[8, 9]),
-        (&[TRI, 10, 3, ABOVE_ALL], &[8, 11]),
-        (&[TRI, 10, 3, 3], &[9, 11]),
-        (&[BAR, 30, 10], &[10, 11]),
+        (&[TRI], &[MISSING]),
+        (&[258], &[MISSING, 6]),
+        (&[258, 7, 3, 4, 5], &[6]),
+        (&[TRI, 7, 3, 4], &[7]),
+        (&[TRI, 7], &[7]),
+        (&[TRI, 7, 3, 4, ABOVE_ALL], &[8]),
+        (&[TRI, 7, 3, 4, 4], &[9]),
+        (&[TRI, 7, 2, 0, 1], &[10]),
+        (&[TRI, 7, 3, 4, 10], &[11]),
+        // An unknown type is 6 whatever follows its licence, also nothing.
+        (&[258, 7], &[6, 7]),
+        (&[258, 7, 3, 4, ABOVE_ALL], &[6, 8]),
+        (&[258, 7, 3, 3, 4], &[6, 9]),
+        (&[258, 7, 10, 4, 5], &[6, 11]),
+        (&[TRI, 7, ABOVE_ALL, 4], &[7, 8]),
+        (&[TRI, 7, 3, 3], &[7, 9]),
+        (&[TRI, 7, 10, 3], &[7, 11]),
+        (&[TRI, 7, 3, 3, ABOVE_ALL], &[8, 9]),
+        (&[TRI, 7, 10, 3, ABOVE_ALL], &[8, 11]),
+        (&[TRI, 7, 10, 3, 3], &[9, 11]),
+        (&[BAR, 7, 30, 10], &[10, 11]),
     ]
 }
 
 /// The same of a third solid on a face.
 fn third_solids_after_the_number() -> Vec<Choice<&'static [u32]>> {
     vec![
-        (&[TETRA, 160, 161, 162, 170], &[19]),
-        (&[PYRA, 160, 170, 171, 161, 162], &[19]),
-        (&[TETRA, 160, 161, 162], &[7, 19]),
-        (&[TETRA, 160, 161, 162, ABOVE_ALL], &[8, 19]),
-        (&[TETRA, 160, 161, 162, 160], &[9, 19]),
-        (&[TETRA, 163, 162, 161, 160], &[10, 19]),
-        (&[TETRA, 10, 165, 166, 170], &[19, 11]),
+        (&[TETRA, 7, 160, 161, 162, 170], &[19]),
+        (&[PYRA, 7, 160, 170, 171, 161, 162], &[19]),
+        (&[TETRA, 7, 160, 161, 162], &[7, 19]),
+        (&[TETRA, 7, 160, 161, 162, ABOVE_ALL], &[8, 19]),
+        (&[TETRA, 7, 160, 161, 162, 160], &[9, 19]),
+        (&[TETRA, 7, 163, 162, 161, 160], &[10, 19]),
+        (&[TETRA, 7, 10, 165, 166, 170], &[19, 11]),
     ]
 }
 
@@ -305,7 +307,6 @@ fn build_1_2_then_a_records_7_3_4_6_7_8_9_10_11() {
         }
     }
     pairs.end(&[
-        (MISSING, 6, NO_CODE),
         (MISSING, 7, NO_CODE),
         (MISSING, 8, NO_CODE),
         (MISSING, 9, NO_CODE),
@@ -319,7 +320,7 @@ fn build_1_2_then_a_records_7_3_4_6_7_8_9_10_11() {
     ]);
 }
 
-const NO_CODE: &str = "a record without its code has no type and no marks";
+const NO_CODE: &str = "a record without its code or its licence has no marks";
 const TOO_FEW: &str = "a record cut short has fewer marks than a live cell of its type";
 
 /// The same under edition 2, after the 131 of the full mark and the full faces.
@@ -351,7 +352,6 @@ fn build_edition_6_1_2_then_a_records_7_3_4_6_7_8_9_10_19_11() {
         }
     }
     pairs.end(&[
-        (MISSING, 6, NO_CODE),
         (MISSING, 7, NO_CODE),
         (MISSING, 8, NO_CODE),
         (MISSING, 9, NO_CODE),

@@ -106,9 +106,9 @@ fn with_cases_it_prints_the_cases() {
         "P8 mark 1 dimension 1: star 0 1, anchors 1, first 1",
         "P9 half 0 0: sibling 16 way 1, border no, cycle 0 16, ways 1 1, step 16 way 1",
         "P9 half 1 0: sibling refused 5, border refused 5, cycle refused 5, step refused 5",
-        "P10 insert 1 type 2 marks 2 0 1: refused 10",
+        "P10 insert 1 type 2 licence 7 marks 2 0 1: refused 10",
         "P11 insert 0 type 2 marks 0 1 1: refused 9",
-        "P12 cell 0: type 2, marks 0 1 2, neighbours none",
+        "P12 cell 0: type 2, licence 0, marks 0 1 2, neighbours none",
         "bound insert 127: accepted",
         "bound insert 128: refused 11",
     ] {

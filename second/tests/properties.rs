@@ -268,6 +268,7 @@ fn shuffled_records(random: &mut Random, memory: &Memory) -> Vec<u32> {
     let mut records = Vec::new();
     for cell in cells {
         records.extend([cell, memory.type_of(cell).unwrap()]);
+        records.push(memory.licence(cell).unwrap());
         records.extend(memory.marks_of(cell));
     }
     records
@@ -283,7 +284,8 @@ fn a_cell_removed_and_inserted_again_leaves_no_trace() {
             let mut edited = memory.clone();
             edited.remove(cell).unwrap();
             assert_ne!(answers(&edited), due);
-            edited.insert(cell, code, &marks).unwrap();
+            let licence = memory.licence(cell).unwrap();
+            edited.insert_licensed(cell, code, licence, &marks).unwrap();
             assert_eq!(answers(&edited), due);
         }
     }

@@ -20,6 +20,7 @@ fn at_place(answer: Result<(), (Refusal, usize)>) -> (u8, usize) {
 fn about_cell(memory: &Memory, cell: u32) -> Vec<(&'static str, u8)> {
     vec![
         ("type", number(memory.type_of(cell))),
+        ("licence", number(memory.licence(cell))),
         ("sibling", number(memory.sibling(cell, 0))),
         ("cycle", number(memory.cycle(cell, 0, PLENTY, PLENTY))),
         ("border", number(memory.border(cell, 0))),
@@ -145,13 +146,13 @@ fn refusal_6_another_edition() {
     for edition in [0, 3, 257, 258, u32::MAX] {
         let mut memory = memory.clone();
         assert_eq!(number(memory.format_edition(6, 4, edition)), 6);
-        let built = memory.build_edition(6, 4, edition, &[0, BAR, 0, 1]);
+        let built = memory.build_edition(6, 4, edition, &[0, BAR, 7, 0, 1]);
         assert_eq!(at_place(built), (6, 0));
     }
     for edition in [1, 2] {
         let mut memory = memory.clone();
         assert_eq!(number(memory.format_edition(6, 4, edition)), 0);
-        let built = memory.build_edition(6, 4, edition, &[0, BAR, 0, 1]);
+        let built = memory.build_edition(6, 4, edition, &[0, BAR, 7, 0, 1]);
         assert_eq!(at_place(built), (0, 0));
     }
 }
@@ -192,7 +193,7 @@ fn refusal_7_a_build_record_cut_short() {
     let two = words(&[(0, TRI, &[0, 1, 2]), (1, QUAD, &[0, 1, 3, 4])]);
     let mut memory = p1();
     assert_eq!(at_place(memory.build(6, 4, &two)), (0, 0));
-    let first = 5;
+    let first = 6;
     for length in 1..two.len() {
         let due = match length.cmp(&first) {
             std::cmp::Ordering::Less => (7, 0),
@@ -274,7 +275,7 @@ fn refusal_11_a_mark_stands_in_128_cells_already() {
         records.extend(words(&[(cell, code, &marks)]));
     }
     assert_eq!(at_place(memory.build(200, 200, &records)), (0, 0));
-    records.extend([150, TRI, 3, 10, 4]);
+    records.extend([150, TRI, 7, 3, 10, 4]);
     assert_eq!(at_place(memory.build(200, 200, &records)), (11, 129));
 }
 

@@ -61,7 +61,7 @@ fn a_build_refused_at_a_record_leaves_an_empty_formatted_mesh() {
     ];
     for place in 0..=good.len() {
         let mut records = words(&good[..place]);
-        records.extend([3, 9]);
+        records.extend([3, 9, 7]);
         for mut memory in [Memory::lent(room(6, 4)), p4()] {
             let refused = memory.build(5, 4, &records);
             assert_eq!(refused, Err((Refusal::TypeUnknown, place)));
@@ -118,7 +118,9 @@ fn the_order_of_edits_does_not_show() {
         }
         assert_ne!(answers(&memory), due);
         for &(cell, code, marks) in out.iter().rev() {
-            memory.insert(cell, code, marks).unwrap();
+            memory
+                .insert_licensed(cell, code, licence_of(cell), marks)
+                .unwrap();
         }
         assert_eq!(answers(&memory), due);
     }
@@ -129,7 +131,9 @@ fn the_order_of_edits_does_not_show() {
 fn a_number_is_free_after_its_removal() {
     let mut memory = p4();
     memory.remove(1).unwrap();
-    memory.insert(1, TETRA, &[2, 3, 4, 5]).unwrap();
+    memory
+        .insert_licensed(1, TETRA, licence_of(1), &[2, 3, 4, 5])
+        .unwrap();
     let afresh = mesh(
         6,
         4,

@@ -274,7 +274,9 @@ fn ways_are_those_of_a_mesh_built_afresh() {
         }
         for cell in cells.iter().rev() {
             let marks: Vec<u32> = cell.marks.iter().map(|mark| mark.0).collect();
-            edited.insert(cell.number.0, cell.row.code, &marks).unwrap();
+            edited
+                .insert_licensed(cell.number.0, cell.row.code, cell.licence, &marks)
+                .unwrap();
         }
         assert_eq!(answers(&edited), due);
     }

@@ -12,21 +12,23 @@
 #define CELLS 13
 #define WORDS MK_ROOM(MARKS, CELLS)
 #define PLACES 128
+#define JOURNAL MK_JOURNAL_WORDS(3)
 #define UNWRITTEN 4294967295u
 
 static const uint32_t records[] = {
-    0, MK_TRI_3, 0, 1, 2,       /* the hillside */
-    1, MK_TRI_3, 0, 2, 3,       /* */
-    2, MK_TRI_3, 0, 3, 4,       /* */
-    3, MK_QUAD_4, 0, 5, 6, 7,   /* the deck, one side */
-    4, MK_QUAD_4, 5, 0, 8, 9,   /* the other side */
-    5, MK_TRI_3, 0, 5, 10,      /* the pier's wall */
-    6, MK_BAR_2, 0, 5,          /* the rail */
-    7, MK_BAR_2, 5, 11,         /* */
-    8, MK_TETRA_4, 0, 1, 2, 11, /* the rock below */
-    10, MK_HEXA_8, 12, 13, 14, 15, 16, 17, 18, 19, /* the pier's block */
-    11, MK_PYRA_5, 16, 17, 18, 19, 5,              /* the pier */
-    12, MK_PENTA_6, 13, 14, 20, 17, 18, 21,        /* the ramp at its side */
+    /* cell, type, licence, marks */
+    0, MK_TRI_3, 71, 0, 1, 2,       /* the hillside */
+    1, MK_TRI_3, 71, 0, 2, 3,       /* */
+    2, MK_TRI_3, 71, 0, 3, 4,       /* */
+    3, MK_QUAD_4, 72, 0, 5, 6, 7,   /* the deck, one side */
+    4, MK_QUAD_4, 72, 5, 0, 8, 9,   /* the other side */
+    5, MK_TRI_3, 72, 0, 5, 10,      /* the pier's wall */
+    6, MK_BAR_2, 0, 0, 5,          /* the rail */
+    7, MK_BAR_2, 0, 5, 11,         /* */
+    8, MK_TETRA_4, 71, 0, 1, 2, 11, /* the rock below */
+    10, MK_HEXA_8, 73, 12, 13, 14, 15, 16, 17, 18, 19, /* the pier's block */
+    11, MK_PYRA_5, 73, 16, 17, 18, 19, 5,              /* the pier */
+    12, MK_PENTA_6, 73, 13, 14, 20, 17, 18, 21,        /* the ramp at its side */
 };
 
 static const uint32_t edge[] = {5, 0};
@@ -36,25 +38,29 @@ static const uint32_t twice[] = {5, 5};
 static const uint32_t top[] = {18, 17, 19, 16};
 static const uint32_t many[] = {12, 13, 14, 15, 16};
 
-static const uint32_t cut_short[] = {0, MK_TRI_3, 0, 1, 2, 1, MK_TRI_3, 0, 2};
+static const uint32_t cut_short[] = {0, MK_TRI_3, 71, 0, 1, 2, 1, MK_TRI_3, 71, 0, 2};
 
 /* three solids on the face between the block and the pier */
 static const uint32_t third[] = {
-    10, MK_HEXA_8, 12, 13, 14, 15, 16, 17, 18, 19, /* */
-    11, MK_PYRA_5, 16, 17, 18, 19, 5,              /* */
-    12, MK_PYRA_5, 16, 18, 17, 19, 11,             /* */
+    10, MK_HEXA_8, 73, 12, 13, 14, 15, 16, 17, 18, 19, /* */
+    11, MK_PYRA_5, 73, 16, 17, 18, 19, 5,              /* */
+    12, MK_PYRA_5, 73, 16, 18, 17, 19, 11,             /* */
 };
 
 /* lists of edits */
-static const uint32_t morning[] = {MK_REMOVE, 4, MK_REMOVE, 1, MK_INSERT, 9, MK_BAR_2, 6, 10, MK_REMOVE, 5};
-static const uint32_t stopped[] = {MK_INSERT, 4, MK_QUAD_4, 5, 0, 8, 9, MK_REMOVE, 1, MK_REMOVE, 9};
+static const uint32_t morning[] = {MK_REMOVE, 4, MK_REMOVE, 1, MK_INSERT, 9, MK_BAR_2, 9, 6, 10, MK_REMOVE, 5};
+static const uint32_t stopped[] = {MK_INSERT, 4, MK_QUAD_4, 72, 5, 0, 8, 9, MK_REMOVE, 1, MK_REMOVE, 9};
 static const uint32_t other_kind[] = {MK_REMOVE, 9, 3, 1};
 static const uint32_t no_number[] = {MK_REMOVE};
 static const uint32_t no_type[] = {MK_INSERT, 1};
-static const uint32_t few_marks[] = {MK_INSERT, 1, MK_TRI_3, 0, 2};
-static const uint32_t back[] = {MK_INSERT, 1, MK_TRI_3, 0, 2, 3, MK_INSERT, 5, MK_TRI_3, 0, 5, 10};
+static const uint32_t no_licence[] = {MK_INSERT, 1, MK_TRI_3};
+static const uint32_t few_marks[] = {MK_INSERT, 1, MK_TRI_3, 71, 0, 2};
+static const uint32_t back[] = {MK_INSERT, 1, MK_TRI_3, 71, 0, 2, 3, MK_INSERT, 5, MK_TRI_3, 72, 0, 5, 10};
 
 static uint32_t mesh[WORDS];
+static uint32_t journal[JOURNAL];
+static uint32_t start[WORDS];
+static uint32_t second[WORDS];
 static uint32_t list[PLACES];
 static uint32_t ways[PLACES];
 static int16_t positions[3 * MARKS];
@@ -152,11 +158,15 @@ static void half_facet(uint32_t cell, uint32_t facet)
 static void one_cell(uint32_t cell)
 {
     uint32_t type = UNWRITTEN;
+    uint32_t licence = UNWRITTEN;
     uint32_t at = UNWRITTEN;
     uint32_t count = UNWRITTEN;
     uint8_t refusal = mk_type(mesh, WORDS, cell, &type);
     printf("type %u: %u;", cell, refusal);
     say_number(type);
+    refusal = mk_licence(mesh, WORDS, cell, &licence);
+    printf("\nlicence %u: %u;", cell, refusal);
+    say_number(licence);
     refusal = mk_marks(mesh, WORDS, cell, &at, &count);
     printf("\nmarks %u", cell);
     say_list(refusal, refusal == MK_ACCEPTED ? mesh + at : mesh, count);
@@ -363,10 +373,53 @@ static void mornings(void)
     edits(WORDS, other_kind, sizeof other_kind / sizeof other_kind[0], 5, 1);
     edits(WORDS, no_number, sizeof no_number / sizeof no_number[0], 6, 2);
     edits(WORDS, no_type, sizeof no_type / sizeof no_type[0], 6, 3);
+    edits(WORDS, no_licence, sizeof no_licence / sizeof no_licence[0], 6, 4);
     edits(WORDS, few_marks, sizeof few_marks / sizeof few_marks[0], 4294967295u, 4294967295u);
     all();
     edits(WORDS, back, sizeof back / sizeof back[0], 4294967294u, 9);
     whole();
+}
+
+static void enter(uint32_t day, uint32_t cell, uint32_t type, uint32_t licence, const uint32_t *marks, size_t count)
+{
+    say_verdict("enter insert", mk_journal_insert(mesh, WORDS, journal, JOURNAL, day, cell, type, licence, marks, count));
+}
+
+static void enter_removal(uint32_t day, uint32_t cell)
+{
+    say_verdict("enter remove", mk_journal_remove(mesh, WORDS, journal, JOURNAL, day, cell));
+}
+
+/* the licences to ask, and whether second memory is a mesh then */
+static void complaint(uint32_t day, uint32_t mark, size_t words, size_t room)
+{
+    uint32_t count = UNWRITTEN;
+    uint8_t refusal = mk_licences(journal, JOURNAL, start, WORDS, day, mark, second, words, list, room, &count);
+    printf("licences %u %u", day, mark);
+    say_list(refusal, list, count);
+    say_verdict("second", mk_whole(second, WORDS));
+}
+
+/* The pier is taken down on day 40: whom a complaint asks, each refusal, and the days before and after. */
+static void complaints(void)
+{
+    const uint32_t stay[] = {5, 10};
+
+    complaint(0, 5, WORDS, PLACES);
+    say_verdict("begin", mk_journal_begin(mesh, WORDS, journal, JOURNAL, start, WORDS));
+    enter(10, 9, MK_BAR_2, 4, stay, 2);
+    enter(10, 9, MK_BAR_2, 4, stay, 2);
+    enter_removal(40, 11);
+    enter_removal(500, 9);
+    enter_removal(500, 8);
+    say_verdict("fold", mk_journal_fold(journal, JOURNAL, start, WORDS, 30));
+    complaint(29, MARKS, WORDS - 1, 0);
+    complaint(30, MARKS, WORDS - 1, 0);
+    complaint(30, MARKS, WORDS, 0);
+    complaint(39, 5, WORDS, 2);
+    complaint(501, 5, WORDS, PLACES);
+    complaint(39, 5, WORDS, 3);
+    complaint(41, 5, WORDS, 2);
 }
 
 int main(void)
@@ -394,11 +447,12 @@ int main(void)
     say_verdict("insert 9", mk_insert(mesh, WORDS, 9, MK_TRI_3, wall, 3));
     say_verdict("insert 9", mk_insert(mesh, WORDS, 9, MK_QUAD_4, wall, 3));
     say_verdict("remove 5", mk_remove(mesh, WORDS, 5));
-    say_verdict("insert 9", mk_insert(mesh, WORDS, 9, MK_TRI_3, wall, 3));
+    say_verdict("insert 9", mk_insert_licensed(mesh, WORDS, 9, MK_TRI_3, 9, wall, 3));
     all();
     second_edition();
     all_placed();
     mornings();
+    complaints();
     /* the header is that of the library */
     return mk_version() == MK_VERSION ? 0 : 1;
 }

@@ -4,7 +4,7 @@
 
 use std::sync::OnceLock;
 
-use mengkiloh::{off_room, room, Cell, Half, Mark, Measure, Mesh, Records, Refusal};
+use mengkiloh::{off_room, room, Cell, Half, Licence, Mark, Measure, Mesh, Records, Refusal};
 use second::map::LiveCell;
 use second::positions::float;
 use second::shapes::type_with_code;
@@ -78,6 +78,16 @@ pub fn listed<T: Number>(
     ours(answer, |count| out[EDGE..EDGE + count].to_vec())
 }
 
+/// A licence: none, one that several cells have, one of the largest, or any.
+pub fn draw_licence(chance: &mut Chance) -> u32 {
+    match chance.below(4) {
+        0 => 0,
+        1 => 1 + chance.below(3),
+        2 => u32::MAX - chance.below(2),
+        _ => chance.bits() as u32,
+    }
+}
+
 /// A question to a map.
 #[derive(Clone, Debug)]
 pub enum Question {
@@ -86,6 +96,7 @@ pub enum Question {
     Free,
     Live,
     Type(u32),
+    Licence(u32),
     Marks(u32),
     Neighbours(u32),
     Sibling(u32, u32),
@@ -113,7 +124,7 @@ impl Question {
         let facet = chance.below(7);
         let dimension = chance.below(5);
         let code = chance.below(9);
-        match chance.below(20) {
+        match chance.below(21) {
             0 => Question::Type(cell),
             1 => Question::Marks(cell),
             2 => Question::Neighbours(cell),
@@ -136,6 +147,7 @@ impl Question {
             16 => Question::Free,
             17 => Question::Live,
             18 => Question::Surface,
+            19 => Question::Licence(cell),
             _ => Question::Count(code),
         }
     }
@@ -168,6 +180,7 @@ impl Question {
                 listed(most as usize, |out| mesh.live_into(out))
             }
             Question::Type(c) => ours(mesh.type_of(Cell(c)), |kind| one(kind.into())),
+            Question::Licence(c) => ours(mesh.licence(Cell(c)), |it| one(it.0)),
             Question::Marks(c) => ours(mesh.marks_of(Cell(c)), plain),
             Question::Neighbours(c) => listed(762, |out| mesh.neighbours_into(Cell(c), out)),
             Question::Sibling(c, facet) => ours(mesh.sibling(Cell(c), facet), |it| {
@@ -207,6 +220,7 @@ impl Question {
             Question::Free => theirs(memory.free(), perhaps),
             Question::Live => theirs(memory.live(PLENTY), |list| list),
             Question::Type(cell) => theirs(memory.type_of(cell), one),
+            Question::Licence(cell) => theirs(memory.licence(cell), one),
             // marks are refused where the type is
             Question::Marks(cell) => match memory.type_of(cell) {
                 Ok(_) => (0, memory.marks_of(cell)),
@@ -357,6 +371,7 @@ pub fn told(words: &[u32]) -> Memory {
             Some(LiveCell {
                 number: second::map::Cell(number),
                 row,
+                licence: part(first)[15],
                 marks: marks.map(second::map::Mark).collect(),
             })
         })
@@ -374,7 +389,8 @@ pub fn records<'a>(cells: impl IntoIterator<Item = &'a LiveCell>) -> Records {
     let mut records = Records::new();
     for cell in cells {
         let marks: Vec<Mark> = cell.marks.iter().map(|mark| Mark(mark.0)).collect();
-        records.add(Cell(cell.number.0), cell.row.code, &marks);
+        let licence = Licence(cell.licence);
+        records.add(Cell(cell.number.0), cell.row.code, licence, &marks);
     }
     records
 }

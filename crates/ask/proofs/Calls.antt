@@ -11,14 +11,14 @@ use Rattle.numbers.specs.Half.{cut, halfOf}
 use Rattle.numbers.specs.declared.Caps.{Caps}
 use Rattle.store.specs.declared.Opened.the-variants.{Mesh}
 use Rattle.store.specs.Fields.{Count, Anchor}
-use Rattle.store.specs.Slots.{InHead, InMark, read, codeIn, siblingIn, wayIn}
+use Rattle.store.specs.Slots.{InHead, InMark, read, codeIn, licenceIn, siblingIn, wayIn}
 use Rattle.store.specs.Open.{opened}
 use Rattle.map.specs.Cells.{Map, cellsOf}
 use Rattle.map.specs.Siblings.{sibling, border}
 use Rattle.map.specs.declared.Way.{Way}
 use Rattle.map.specs.Ways.{wayNumber, way}
 use Rattle.map.specs.Stars.{anchors}
-use Rattle.map.specs.Answers.{answer, cellChecks, halfChecks, starChecks, typeChecks, typeAnswer, siblingAnswer, borderAnswer, firstAnchorAnswer, countAnswer, editionAnswer, stepAnswer}
+use Rattle.map.specs.Answers.{answer, cellChecks, halfChecks, starChecks, typeChecks, typeAnswer, licenceAnswer, siblingAnswer, borderAnswer, firstAnchorAnswer, countAnswer, editionAnswer, stepAnswer}
 use Rattle.map.specs.Free.{capacitiesAnswer}
 use Rattle.map.specs.Says.{given, refused, valueSays, pairSays, halfSays, truthSays, foundSays}
 use Rattle.map.specs.declared.Refusal.{Refusal}
@@ -38,7 +38,7 @@ use Rattle.checks.specs.Checked.{Checked}
 use Rattle.checks.specs.Opening.{Opens}
 use Rattle.checks.specs.declared.Opening.{Opening}
 use Rattle.checks.specs.declared.Opening.the-variants as Opening′
-use Rattle.checks.proofs.Rows.{cells-of, code-of}
+use Rattle.checks.proofs.Rows.{cells-of, code-of, licence-of}
 use Rattle.checks.proofs.Passed.{cell-numbered, half-numbered, star-numbered, type-numbered, cell-passed, half-passed, star-passed, type-passed}
 use Rattle.ask.specs.declared.Step.the-variants as Step
 use Rattle.ask.specs.Asked.{Asked}
@@ -64,6 +64,11 @@ module _ (w : List ℕ) (c : ℕ) where
       → Asked valueSays noValue w (λ m. typeAnswer m c) (Value.Refused why)
   unfolding typeAnswer valueSays
   type-refused = asked-refused valueSays w (λ m. cellChecks m c) (λ m. m .at c .code ∷ []) Value.Refused (λ why. refl)
+
+  pub licence-refused : (opening : Opening) → Opens w (λ m. cellChecks m c) opening → (why : Refusal) → opening ≡ Opening′.Refused why
+      → Asked valueSays noValue w (λ m. licenceAnswer m c) (Value.Refused why)
+  unfolding licenceAnswer valueSays
+  licence-refused = asked-refused valueSays w (λ m. cellChecks m c) (λ m. m .at c .licence ∷ []) Value.Refused (λ why. refl)
 
 module _ (w : List ℕ) (c f : ℕ) where
   pub sibling-refused : (opening : Opening) → Opens w (λ m. halfChecks m c f) opening → (why : Refusal) → opening ≡ Opening′.Refused why
@@ -110,6 +115,14 @@ module _ (w : List ℕ) (caps : Caps) (opens : Mesh caps ≡ opened w) (verdict 
         (λ m e wf.
         let below : c < caps .cells = omega (arith, cell-passed w caps verdict v m e wf c checked .0, cells-of caps m e) in
         ap (λ (n : ℕ). given (n ∷ [])) (word ∙ code-of caps m e w wf c below))
+
+    pub licence-given : verdict ≡ Accepted → (x : ℕ) → x ≡ licenceIn w caps c → Asked valueSays noValue w (λ m. licenceAnswer m c) (Value.Is x)
+    unfolding licenceAnswer valueSays
+    licence-given v x word =
+        asked-given valueSays w (λ m. cellChecks m c) (λ m. m .at c .licence ∷ []) noValue caps opens (Value.Is x) verdict checked v (λ m. cell-numbered m c)
+        (λ m e wf.
+        let below : c < caps .cells = omega (arith, cell-passed w caps verdict v m e wf c checked .0, cells-of caps m e) in
+        ap (λ (n : ℕ). given (n ∷ [])) (word ∙ licence-of caps m e w wf c below))
 
   module _ (c f : ℕ) (checked : Checked w caps (λ m. halfChecks m c f) verdict) where
     module _ (v : verdict ≡ Accepted) (y : ℕ) (half : y ≡ halfOf (cut c) (f % 8)) (h : Half) (word : h .0 ≡ siblingIn w caps y) where

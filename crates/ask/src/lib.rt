@@ -1,10 +1,10 @@
-// The queries that read a word: type and marks of a cell, sibling, border, first anchor, count of a type, edition, capacities, a walker's step;
+// The queries that read a word: type, licence and marks of a cell, sibling, border, first anchor, count of a type, edition, capacities, a walker's step;
 // and the free cell.
 //
 // What is here: the public calls, none with a `requires`, and the walker. What is proved: memory that is no mesh is refused with 14; on
 // well-formed memory the answer, with its refusals in the listed order, is that of crates/map/specs/Answers.antt (specs/Asked.antt). What a
 // caller should know: each costs a few words read, whatever the size of the mesh, save for the free cell, which looks at every cell below it.
-ghost use Rattle.map.specs.Answers.{typeAnswer, siblingAnswer, borderAnswer, firstAnchorAnswer, countAnswer, editionAnswer, stepAnswer};
+ghost use Rattle.map.specs.Answers.{typeAnswer, licenceAnswer, siblingAnswer, borderAnswer, firstAnchorAnswer, countAnswer, editionAnswer, stepAnswer};
 ghost use Rattle.map.specs.Free.{capacitiesAnswer, freeAnswer};
 ghost use Rattle.map.specs.Says.{valueSays, pairSays, cellSays, halfSays, truthSays, foundSays};
 ghost use Rattle.ask.specs.Asked.{Asked, HandedMarks};
@@ -34,6 +34,7 @@ use store::Opened;
 use store::anchor_of;
 use store::code_of;
 use store::count_of;
+use store::licence_of;
 use store::open;
 use store::sibling_of;
 use store::way_of;
@@ -46,6 +47,16 @@ pub fn type_of(w: &[u32], c: Cell) -> Value
     match about_cell(w, c) {
         Opening::Refused(why) => Value::Refused(why),
         Opening::Open(caps) => Value::Is(code_of(w, caps, c)),
+    }
+}
+
+// The licence of a cell; 0 if it was inserted without one.
+pub fn licence(w: &[u32], c: Cell) -> Value
+    ensures { λ r. ⌜ Asked valueSays noValue (now (w .entry)) (λ m. licenceAnswer m (c .0)) r ⌝ }
+{
+    match about_cell(w, c) {
+        Opening::Refused(why) => Value::Refused(why),
+        Opening::Open(caps) => Value::Is(licence_of(w, caps, c)),
     }
 }
 

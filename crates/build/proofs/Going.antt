@@ -6,7 +6,7 @@ use native.Mathlib.Decide.{decLt}
 use native.Mathlib.Numerals.{add-one}
 use native.Mathlib.Omega.{arith}
 use borrow.Author.Tests.{eq-eqb, ne-eqb}
-use lib.ListN.{length, getD, take, drop, drop-of-length-le}
+use lib.ListN.{length, getD, take, drop, length-drop, drop-of-length-le}
 use Rattle.lists.specs.Lists.{select}
 use Rattle.lists.proofs.Select.{select-size}
 use Rattle.lists.proofs.Counts.{select-none, select-more}
@@ -17,7 +17,7 @@ use Rattle.words.specs.Words.{Only}
 use Rattle.words.proofs.Frame.{only-none, only-then}
 use Rattle.shapes.specs.Shapes.{shape}
 use Rattle.store.specs.Open.{roomIn}
-use Rattle.map.specs.Cells.{Body, bodyOf, Map, noCell, bodyIn, mapOf, live}
+use Rattle.map.specs.Cells.{Body, licensedBody, Map, noCell, bodyIn, mapOf, live}
 use Rattle.map.specs.Answers.{Answer, answer, formatChecks}
 use Rattle.map.specs.History.{empty, Insert, editAnswer, put, changed, Outcome, buildFrom, build}
 use Rattle.map.specs.Says.{numberOf, given, refused, verdictSays, builtSays}
@@ -35,8 +35,8 @@ use Rattle.format.specs.Formatted.{Formatted}
 use Rattle.mesh.specs.Edited.{Edited}
 use Rattle.build.specs.Builds.{placed, formatRefusal, buildAnswer, Builds}
 use Rattle.build.specs.Recorded.{width, between, Recorded}
-use Rattle.build.proofs.Records.{two-words, one-word, end-short, marks-taken, next-words}
-use Rattle.build.proofs.Turns.{turn-end, turn-one, turn-made, turn-refused}
+use Rattle.build.proofs.Records.{three-words, end-short, marks-taken, next-words}
+use Rattle.build.proofs.Turns.{turn-end, turn-short, turn-made, turn-refused}
 
 -- the capacities stand in the head
 head-room : (w : List ℕ) (m : Map) → Wf w m → roomIn w ≡ room (m .caps .marks) (m .caps .cells)
@@ -166,9 +166,9 @@ module _ (caps : Caps) (records : List ℕ) where
       rooms = head-room w (g .map) (g .wf) ∙ (rw (g .ofCaps))
 
       went : Only (λ i. i < room (caps .marks) (caps .cells)) w₁ w′
-      went = go (decLt end (at + 2))
+      went = go (decLt end (at + 3))
         where
-          go : Dec (end < at + 2) → Only (λ i. i < room (caps .marks) (caps .cells)) w₁ w′
+          go : Dec (end < at + 3) → Only (λ i. i < room (caps .marks) (caps .cells)) w₁ w′
           go (yes l) = rw (did .short l .1) (g .inside)
           go (no l) = only-then (g .inside) (subst (λ (k : ℕ). Only (λ i. i < k) w w′) rooms (did .whole (omega arith) .inside))
 
@@ -182,23 +182,26 @@ module _ (caps : Caps) (records : List ℕ) where
       t : ℕ
       t = getD records (at + 1) 0
 
+      licence : ℕ
+      licence = getD records (at + 2) 0
+
       left : List ℕ
-      left = drop (at + 2) records
+      left = drop (at + 3) records
 
       abbrev x : Body
-      x = bodyOf t (take (shape t .marks) left)
+      x = licensedBody t licence (take (shape t .marks) left)
 
-      module _ (long : at + 2 ≤ end) where
+      module _ (long : at + 3 ≤ end) where
         whole : Edited w (Insert c x) v w′
-        unfolding between c t left
+        unfolding between c t licence left
         whole = rw (marks-taken records at end ends long) at (did .whole long)
 
         says : verdictSays v ≡ editAnswer (g .map) (Insert c x)
         says = whole .answers (g .map) (g .wf) .0
 
-        words : drop at records ≡ c ∷ t ∷ left
-        unfolding c t left
-        words = two-words records at (omega arith)
+        words : drop at records ≡ c ∷ t ∷ licence ∷ left
+        unfolding c t licence left
+        words = three-words records at (omega arith)
 
         behind : length (take (shape t .marks) left) ≡ shape t .marks → drop (shape t .marks) left ≡ drop end records
         unfolding c t left
@@ -209,32 +212,34 @@ module _ (caps : Caps) (records : List ℕ) where
             ≡ record { refusal = numberOf why; place = place; map = empty (g .map .caps) }
         unfolding verdictSays refused
         refused-words why e =
-            rw words (turn-refused place (g .map) c t left (g .fuel) some why
+            rw words (turn-refused place (g .map) c t licence left (g .fuel) some why
             (ap (λ (a : Answer). a .refusal) (ap verdictSays (sym e) ∙ says)))
 
-      short-words : end < at + 2 → (why : Refusal) → v ≡ Refused why
+      short-words : end < at + 3 → (why : Refusal) → v ≡ Refused why
           → buildFrom (g .fuel) place (g .map) (drop at records)
           ≡ record { refusal = numberOf why; place = place; map = empty (g .map .caps) }
       short-words l why e =
           let same : why ≡ CountWrong = cc (did .short l .0) in
-          rw (one-word records at more (end-short records at end ends more l), same) (turn-one place (g .map) (g .fuel) some (getD records at 0))
+          rw same
+          (turn-short place (g .map) (g .fuel) some (drop at records) (omega (arith, more, length-drop at records))
+          (omega (arith, length-drop at records, end-short records at end ends more l)))
 
       -- refused: the build ends with its place
       pub going-refused : (why : Refusal) → v ≡ Refused why
           → (build caps records ≡ record { refusal = numberOf why; place = place; map = empty caps })
           × Only (λ i. i < room (caps .marks) (caps .cells)) w₁ w′
-      going-refused why e = (g .rest ∙ (go (decLt end (at + 2)) ∙ (rw (g .ofCaps))), went)
+      going-refused why e = (g .rest ∙ (go (decLt end (at + 3)) ∙ (rw (g .ofCaps))), went)
         where
-          go : Dec (end < at + 2) → buildFrom (g .fuel) place (g .map) (drop at records)
+          go : Dec (end < at + 3) → buildFrom (g .fuel) place (g .map) (drop at records)
               ≡ record { refusal = numberOf why; place = place; map = empty (g .map .caps) }
           go (yes l) = short-words l why e
           go (no l) = refused-words (omega arith) why e
 
       -- accepted: the next one
-      accepted-long : v ≡ Accepted → at + 2 ≤ end
-      accepted-long e = go (decLt end (at + 2))
+      accepted-long : v ≡ Accepted → at + 3 ≤ end
+      accepted-long e = go (decLt end (at + 3))
         where
-          go : Dec (end < at + 2) → at + 2 ≤ end
+          go : Dec (end < at + 3) → at + 3 ≤ end
           go (yes l) = let z : _≡_ {A = ℕ} 0 1 = cc (did .short l .0) in absurd (omega arith)
           go (no l) = omega arith
 
@@ -251,7 +256,7 @@ module _ (caps : Caps) (records : List ℕ) where
         inside = went;
       })
         where
-          long : at + 2 ≤ end
+          long : at + 3 ≤ end
           long = accepted-long e
 
           zero : editAnswer (g .map) (Insert c x) .refusal ≡ 0
@@ -263,5 +268,5 @@ module _ (caps : Caps) (records : List ℕ) where
           rest : buildFrom (g .fuel) place (g .map) (drop at records)
               ≡ buildFrom (g .fuel - 1) (place + 1) (changed (g .map) (Insert c x)) (drop end records)
           rest =
-              rw (words long) (turn-made place (g .map) c t left (g .fuel) some zero)
+              rw (words long) (turn-made place (g .map) c t licence left (g .fuel) some zero)
               ∙ ap (buildFrom (g .fuel - 1) (place + 1) (changed (g .map) (Insert c x))) (behind long (may .count))

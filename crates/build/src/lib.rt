@@ -1,7 +1,7 @@
 // A whole mesh from a list of records.
 //
-// What is here: `build_edition` formats the memory and inserts the records one after another; a record is a cell's number, a type and that
-// type's marks. `build` does so under edition 1. They have no `requires`. What is proved: the answer of the outline, with the place of the
+// What is here: `build_edition` formats the memory and inserts the records one after another; a record is a cell's number, a type, a licence and
+// that type's marks. `build` does so under edition 1. They have no `requires`. What is proved: the answer of the outline, with the place of the
 // first refused record; a build that its format refuses changes nothing; nothing beyond the room changes; the memory left is the
 // well-formed one of the built mesh, or of the mesh of that edition with no live cell (specs/Builds.antt). What a caller should know: a
 // record cut off at the end is refused with 7 unless a check before that one fails, and a refused build formats once more.
@@ -15,7 +15,7 @@ use format::format_edition;
 use map::Built;
 use map::Refusal;
 use map::Verdict;
-use mesh::insert;
+use mesh::insert_licensed;
 use numbers::Cell;
 use numbers::FIRST_EDITION;
 use shapes::mark_count;
@@ -30,7 +30,7 @@ pub fn record_end(records: &[u32], at: usize) -> usize
     if len <= at {
         return len;
     }
-    let n = 2 + (mark_count(word(records, at + 1)) as usize);
+    let n = 3 + (mark_count(word(records, at + 1)) as usize);
     if len - at < n {
         return len;
     }
@@ -41,16 +41,17 @@ pub fn record_end(records: &[u32], at: usize) -> usize
 pub fn one_record(w: &mut [u32], records: &[u32], at: usize, end: usize) -> Verdict
     ensures { λ r. ⌜ Recorded (now (w .entry)) (now (records .entry)) at end r (now (w .exit)) ⌝ }
 {
-    if end < 2 {
+    if end < 3 {
         return Verdict::Refused(Refusal::CountWrong);
     }
-    if end - 2 < at {
+    if end - 3 < at {
         return Verdict::Refused(Refusal::CountWrong);
     }
     let c = word(records, at);
     let t = word(records, at + 1);
-    let marks = part(records, at + 2, end - 2 - at);
-    insert(w, Cell(c), t, marks)
+    let licence = word(records, at + 2);
+    let marks = part(records, at + 3, end - 3 - at);
+    insert_licensed(w, Cell(c), t, licence, marks)
 }
 
 // A mesh of these capacities and this edition with the cells of the records.

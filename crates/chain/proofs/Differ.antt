@@ -12,7 +12,7 @@ use lib.ListN.{length}
 use Rattle.lists.specs.Lists.{keep}
 use Rattle.lists.proofs.Members.{has-at}
 use Rattle.numbers.specs.declared.Caps.{Caps}
-use Rattle.store.specs.Fields.{First, Held, Anchor, MarkRest, Code, Near, Sib, Link, Far, CellRest}
+use Rattle.store.specs.Fields.{First, Held, Anchor, MarkRest, Code, Licence, Near, Sib, Link, Far, CellRest}
 use Rattle.store.specs.Slots.{Slot, InHead, InMark, InCell, Within}
 use Rattle.picture.specs.State.{State, next}
 use Rattle.picture.specs.Picture.{chainOf, ahead, linkTo, link, corner, linkWord, headWord, markWord, cellWord, wordOf}
@@ -137,6 +137,7 @@ module _
     frame (InMark u (Anchor d)) r f g n = refl
     frame (InMark u (MarkRest i)) r f g n = refl
     frame (InCell d Code) r f g n = refl
+    frame (InCell d Licence) r f g n = refl
     frame (InCell d (Near i)) r f g n = refl
     frame (InCell d (Sib i)) r f g n = refl
     frame (InCell d (Far i)) r f g n = refl

@@ -13,7 +13,7 @@ use Rattle.shapes.specs.Shapes.{shape, facetCount}
 use Rattle.shapes.specs.Sizes.{mostCorners}
 use Rattle.shapes.proofs.Facts.{facts}
 use Rattle.numbers.specs.declared.Caps.{Caps}
-use Rattle.store.specs.Slots.{codeIn, marksAt}
+use Rattle.store.specs.Slots.{codeIn, licenceIn, marksAt}
 use Rattle.map.specs.Cells.{Map, live}
 use Rattle.map.specs.Answers.{_when_, answer, cellChecks, halfChecks, starChecks, setChecks, typeChecks}
 use Rattle.map.specs.Says.{given, refused, verdictSays}
@@ -21,7 +21,7 @@ use Rattle.map.specs.declared.Refusal.the-variants.{CellOutside, CellNotLive, T
 use Rattle.map.specs.declared.Verdict.the-variants.{Accepted, Refused}
 use Rattle.picture.specs.State.{stateOf}
 use Rattle.picture.specs.Picture.{Wf}
-use Rattle.picture.proofs.Record.{code-read, marks-read}
+use Rattle.picture.proofs.Record.{code-read, licence-read, marks-read}
 use Rattle.picture.proofs.Settles.{wf-pic}
 use Rattle.checks.specs.Checked.{Checked}
 
@@ -36,6 +36,11 @@ module _ (caps : Caps) (m : Map) (e : m .caps ≡ caps) where
   pub code-of : (w : List ℕ) → Wf w m → (c : ℕ) → c < caps .cells → codeIn w caps c ≡ m .at c .code
   unfolding stateOf
   code-of w wf c h = code-read w caps (stateOf m) (wf-pic w caps m e wf) c h
+
+  -- the licence
+  pub licence-of : (w : List ℕ) → Wf w m → (c : ℕ) → c < caps .cells → licenceIn w caps c ≡ m .at c .licence
+  unfolding stateOf
+  licence-of w wf c h = licence-read w caps (stateOf m) (wf-pic w caps m e wf) c h
 
   -- and the marks, as many as that type has
   pub marks-in : (w : List ℕ) → Wf w m → (c : ℕ) → c < caps .cells

@@ -11,7 +11,7 @@ use Rattle.lists.specs.Lists.{first}
 use Rattle.words.specs.Words.{Only}
 use Rattle.words.proofs.Frame.{only-then}
 use Rattle.shapes.specs.Shapes.{shape}
-use Rattle.map.specs.Cells.{bodyOf, Map}
+use Rattle.map.specs.Cells.{licensedBody, Map}
 use Rattle.map.specs.Answers.{Answer}
 use Rattle.map.specs.Says.{editsSays}
 use Rattle.map.specs.History.{Edit, Insert, Remove}
@@ -51,18 +51,19 @@ tally-swap t p q =
     go false true = refl
     go false false = refl
 
--- the words of one edit: 2 and a cell's number; 1, a cell's number, a type's code, and no more marks than the type has
+-- the words of one edit: 2 and a cell's number; 1, a cell's number, a type's code, a licence, and no more marks than the type has
 pub remove-words : (c : ℕ) → editsIn (2 ∷ c ∷ []) ≡ Remove c ∷ []
 unfolding readFrom turn removeTurn
 remove-words c = refl
 
-pub insert-words : (c t : ℕ) (marks : List ℕ) → length marks ≤ shape t .marks → editsIn (1 ∷ c ∷ t ∷ marks) ≡ Insert c (bodyOf t marks) ∷ []
+pub insert-words : (c t licence : ℕ) (marks : List ℕ) → length marks ≤ shape t .marks
+    → editsIn (1 ∷ c ∷ t ∷ licence ∷ marks) ≡ Insert c (licensedBody t licence marks) ∷ []
 unfolding readFrom turn insertTurn
-insert-words c t marks size =
+insert-words c t licence marks size =
     let all : take (shape t .marks) marks ≡ marks = take-all (shape t .marks) marks size in
-    let none : drop (2 + shape t .marks) (c ∷ t ∷ marks) ≡ [] = drop-of-length-le (c ∷ t ∷ marks) {i = 2 + shape t .marks} (omega arith) in
-    let reads : readFrom 0 (1 ∷ c ∷ t ∷ marks) ≡ before (Insert c (bodyOf t marks)) (readFrom 0 []) =
-    read-edit 1 (c ∷ t ∷ marks) (Insert c (bodyOf t (take (shape t .marks) marks))) (2 + shape t .marks) refl ∙ rw (none, all) in
+    let none : drop (3 + shape t .marks) (c ∷ t ∷ licence ∷ marks) ≡ [] = drop-of-length-le (c ∷ t ∷ licence ∷ marks) {i = 3 + shape t .marks} (omega arith) in
+    let reads : readFrom 0 (1 ∷ c ∷ t ∷ licence ∷ marks) ≡ before (Insert c (licensedBody t licence marks)) (readFrom 0 []) =
+    read-edit 1 (c ∷ t ∷ licence ∷ marks) (Insert c (licensedBody t licence (take (shape t .marks) marks))) (3 + shape t .marks) refl ∙ rw (none, all) in
     ap (λ (x : Reading). x .edits) reads
 
 -- an edit of one crew and one of the other, as two lists

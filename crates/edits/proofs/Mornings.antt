@@ -12,7 +12,7 @@ use lib.Seq.{take-all, take-append-le}
 use Rattle.lists.proofs.Bools.{clash}
 use Rattle.shapes.specs.Shapes.{shape}
 use Rattle.store.specs.Open.{isMesh}
-use Rattle.map.specs.Cells.{bodyOf, Map}
+use Rattle.map.specs.Cells.{licensedBody, Map}
 use Rattle.map.specs.History.{Edit, Insert, Remove, editAnswer, changed, edited}
 use Rattle.laws.proofs.Edits.{edited-changed, may-insert}
 use Rattle.map.specs.Morning as M
@@ -41,14 +41,15 @@ turn-alone m e = go (ℕ-discrete (editAnswer m e .refusal) 0)
     go (no f) = turn-refused m e [] 0 (editAnswer m e .refusal) refl f ∙ (rw (ne-eqb (editAnswer m e .refusal) 0 f))
 
 -- a list of one insertion, and of one removal
-pub one-insert : (m : Map) (c t : ℕ) (marks : List ℕ) → length marks ≡ shape t .marks → morning m (1 ∷ c ∷ t ∷ marks) ≡ alone m (Insert c (bodyOf t marks))
+pub one-insert : (m : Map) (c t licence : ℕ) (marks : List ℕ) → length marks ≡ shape t .marks
+    → morning m (1 ∷ c ∷ t ∷ licence ∷ marks) ≡ alone m (Insert c (licensedBody t licence marks))
 unfolding morning readFrom turn insertTurn
-one-insert m c t marks size =
+one-insert m c t licence marks size =
     let all : take (shape t .marks) marks ≡ marks = take-all (shape t .marks) marks (omega arith) in
-    let none : drop (2 + shape t .marks) (c ∷ t ∷ marks) ≡ [] = drop-of-length-le (c ∷ t ∷ marks) {i = 2 + shape t .marks} (omega arith) in
-    let reads : readFrom 0 (1 ∷ c ∷ t ∷ marks) ≡ before (Insert c (bodyOf t marks)) (readFrom 0 []) =
-    read-edit 1 (c ∷ t ∷ marks) (Insert c (bodyOf t (take (shape t .marks) marks))) (2 + shape t .marks) refl ∙ (rw (none, all)) in
-    ap (reading m) reads ∙ turn-alone m (Insert c (bodyOf t marks))
+    let none : drop (3 + shape t .marks) (c ∷ t ∷ licence ∷ marks) ≡ [] = drop-of-length-le (c ∷ t ∷ licence ∷ marks) {i = 3 + shape t .marks} (omega arith) in
+    let reads : readFrom 0 (1 ∷ c ∷ t ∷ licence ∷ marks) ≡ before (Insert c (licensedBody t licence marks)) (readFrom 0 []) =
+    read-edit 1 (c ∷ t ∷ licence ∷ marks) (Insert c (licensedBody t licence (take (shape t .marks) marks))) (3 + shape t .marks) refl ∙ (rw (none, all)) in
+    ap (reading m) reads ∙ turn-alone m (Insert c (licensedBody t licence marks))
 
 pub one-remove : (m : Map) (c : ℕ) → morning m (2 ∷ c ∷ []) ≡ alone m (Remove c)
 unfolding morning readFrom turn removeTurn
@@ -64,9 +65,10 @@ insert-at : (words : List ℕ) → AtTurn 1 words
 unfolding turn insertTurn
 insert-at [] = not 7 (λ z. omega arith) refl
 insert-at (c ∷ []) = not 7 (λ z. omega arith) refl
-insert-at (c ∷ t ∷ rest) =
-    is (Insert c (bodyOf t (take (shape t .marks) rest))) (2 + shape t .marks) refl (omega arith) (omega arith) (λ m ok more.
-    let long : shape t .marks ≤ length rest = omega (arith, may-insert m c (bodyOf t (take (shape t .marks) rest)) ok .count, length-take (shape t .marks) rest) in
+insert-at (c ∷ t ∷ []) = not 7 (λ z. omega arith) refl
+insert-at (c ∷ t ∷ licence ∷ rest) =
+    is (Insert c (licensedBody t licence (take (shape t .marks) rest))) (3 + shape t .marks) refl (omega arith) (omega arith) (λ m ok more.
+    let long : shape t .marks ≤ length rest = omega (arith, may-insert m c (licensedBody t licence (take (shape t .marks) rest)) ok .count, length-take (shape t .marks) rest) in
     (rw (take-append-le (shape t .marks) rest more long), omega arith))
 
 remove-at : (words : List ℕ) → AtTurn 2 words

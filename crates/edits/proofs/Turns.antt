@@ -7,7 +7,7 @@ use native.Mathlib.Omega.{arith}
 use borrow.Author.Tests.{ne-eqb}
 use lib.ListN.{length, getD, take, drop, drop-of-length-le}
 use Rattle.shapes.specs.Shapes.{shape}
-use Rattle.map.specs.Cells.{bodyOf}
+use Rattle.map.specs.Cells.{licensedBody}
 use Rattle.map.specs.History.{Edit, Insert, Remove}
 use Rattle.map.specs.Says.{numberOf}
 use Rattle.map.specs.declared.Refusal.{Refusal}
@@ -53,44 +53,46 @@ module _ (kind : ℕ) (words : List ℕ) where
   read-edit e n q = read-on e n q ∙ ap (before e) (read-behind n words)
 
   module _ (insert : kind ≡ 1) where
-    insert-short : length words < 2 → turn kind words ≡ Not 7
+    insert-short : length words < 3 → turn kind words ≡ Not 7
     unfolding turn insertTurn
     insert-short h = rw insert (go words h)
       where
-        go : (l : List ℕ) → length l < 2 → insertTurn l ≡ Not 7
+        go : (l : List ℕ) → length l < 3 → insertTurn l ≡ Not 7
         go [] h = refl
         go (c ∷ []) h = refl
-        go (c ∷ t ∷ rest) h = absurd (omega arith)
+        go (c ∷ t ∷ []) h = refl
+        go (c ∷ t ∷ licence ∷ rest) h = absurd (omega arith)
 
-    insert-long : 2 ≤ length words
+    insert-long : 3 ≤ length words
         → turn kind words
-        ≡ Is (Insert (getD words 0 0) (bodyOf (getD words 1 0) (take (shape (getD words 1 0) .marks) (drop 2 words)))) (2 + shape (getD words 1 0) .marks)
+        ≡ Is (Insert (getD words 0 0) (licensedBody (getD words 1 0) (getD words 2 0) (take (shape (getD words 1 0) .marks) (drop 3 words)))) (3 + shape (getD words 1 0) .marks)
     unfolding turn insertTurn
     insert-long h = rw insert (go words h)
       where
-        go : (l : List ℕ) → 2 ≤ length l
-            → insertTurn l ≡ Is (Insert (getD l 0 0) (bodyOf (getD l 1 0) (take (shape (getD l 1 0) .marks) (drop 2 l)))) (2 + shape (getD l 1 0) .marks)
+        go : (l : List ℕ) → 3 ≤ length l
+            → insertTurn l ≡ Is (Insert (getD l 0 0) (licensedBody (getD l 1 0) (getD l 2 0) (take (shape (getD l 1 0) .marks) (drop 3 l)))) (3 + shape (getD l 1 0) .marks)
         go [] h = absurd (omega arith)
         go (c ∷ []) h = absurd (omega arith)
-        go (c ∷ t ∷ rest) h = refl
+        go (c ∷ t ∷ []) h = absurd (omega arith)
+        go (c ∷ t ∷ licence ∷ rest) h = refl
 
     -- a record inserted, as long as it is
     module _ (w : List ℕ) (end : ℕ) (ends : end ≡ min (0 + width words 0) (length words)) (v : Verdict) (w′ : List ℕ) (did : Recorded w words 0 end v w′) where
-      short : end < 2 → length words < 2
+      short : end < 3 → length words < 3
       unfolding width
       short h = omega arith
 
-      whole : 2 ≤ end → Edited w (Insert (getD words 0 0) (bodyOf (getD words 1 0) (take (shape (getD words 1 0) .marks) (drop 2 words)))) v w′
+      whole : 3 ≤ end → Edited w (Insert (getD words 0 0) (licensedBody (getD words 1 0) (getD words 2 0) (take (shape (getD words 1 0) .marks) (drop 3 words)))) v w′
       unfolding between
       whole h = rw (marks-taken words 0 end ends h) at (did .whole h)
 
-      long : 2 ≤ end → 2 ≤ length words
+      long : 3 ≤ end → 3 ≤ length words
       long h = omega arith
 
       insert-refused : (why : Refusal) → v ≡ Refused why → Turned w kind words (Code′.Refused why) w′
-      insert-refused why q = go (decLt end 2)
+      insert-refused why q = go (decLt end 3)
         where
-          go : Dec (end < 2) → Turned w kind words (Code′.Refused why) w′
+          go : Dec (end < 3) → Turned w kind words (Code′.Refused why) w′
           go (yes l) =
               let same : why ≡ CountWrong = cc (did .short l .0) in
               rw (same, did .short l .1) (none CountWrong (insert-short (short l)))
@@ -98,20 +100,20 @@ module _ (kind : ℕ) (words : List ℕ) where
 
       insert-made : v ≡ Accepted → Turned w kind words (Code′.Made end) w′
       unfolding width
-      insert-made q = go (decLt end 2)
+      insert-made q = go (decLt end 3)
         where
-          behind : Dec (length words < 2 + shape (getD words 1 0) .marks) → drop end words ≡ drop (2 + shape (getD words 1 0) .marks) words
+          behind : Dec (length words < 3 + shape (getD words 1 0) .marks) → drop end words ≡ drop (3 + shape (getD words 1 0) .marks) words
           behind (yes h) =
               drop-of-length-le words {i = end} (omega arith)
-              ∙ sym (drop-of-length-le words {i = 2 + shape (getD words 1 0) .marks} (omega arith))
+              ∙ sym (drop-of-length-le words {i = 3 + shape (getD words 1 0) .marks} (omega arith))
           behind (no f) =
-              let e : end ≡ 2 + shape (getD words 1 0) .marks = omega arith in
+              let e : end ≡ 3 + shape (getD words 1 0) .marks = omega arith in
               rw e
 
-          go : Dec (end < 2) → Turned w kind words (Code′.Made end) w′
+          go : Dec (end < 3) → Turned w kind words (Code′.Made end) w′
           go (yes l) = let z : _≡_ {A = ℕ} 0 1 = cc (did .short l .0) in absurd (omega arith)
           go (no f) =
-              made end (insert-long (long (omega arith))) (omega arith) (behind (decLt (length words) (2 + shape (getD words 1 0) .marks))) (rw q at (whole (omega arith)))
+              made end (insert-long (long (omega arith))) (omega arith) (behind (decLt (length words) (3 + shape (getD words 1 0) .marks))) (rw q at (whole (omega arith)))
 
       pub insert-turned : (s : Code.Step) → s ≡ stepOf v end → Turned w kind words s w′
       unfolding stepOf

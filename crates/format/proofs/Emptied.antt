@@ -10,7 +10,7 @@ use Rattle.lists.specs.Lists.{has, keep}
 use Rattle.lists.proofs.Bools.{clash}
 use Rattle.lists.proofs.Counts.{select-none}
 use Rattle.numbers.specs.declared.Caps.{Caps}
-use Rattle.store.specs.Fields.{Magic, MarkCap, CellCap, Edition, Count, HeadRest, First, Held, Anchor, MarkRest, Code, Near, Sib, Link, Far, CellRest}
+use Rattle.store.specs.Fields.{Magic, MarkCap, CellCap, Edition, Count, HeadRest, First, Held, Anchor, MarkRest, Code, Licence, Near, Sib, Link, Far, CellRest}
 use Rattle.store.specs.Slots.{Slot, InHead, InMark, InCell, Within}
 use Rattle.store.proofs.Heads.{headNumber}
 use Rattle.map.specs.Cells.{noCell, bodyIn, mapOf, cellsOf}
@@ -72,6 +72,7 @@ module _ (caps : Caps) where
   empty-word (InMark v (Anchor d)) h n = empty-anc d v
   empty-word (InMark v (MarkRest k)) h n = refl
   empty-word (InCell c Code) h n = refl
+  empty-word (InCell c Licence) h n = refl
   empty-word (InCell c (Near k)) h n = refl
   empty-word (InCell c (Sib f)) h n = rw (empty-half (8 * c + f))
   empty-word (InCell c (Link k)) h n = rw (le-ltb k 0 (omega arith))

@@ -2,7 +2,7 @@
 use mathlib.Core.Path.{_≡_}
 use mathlib.Core.Bool.{cond}
 use mathlib.Core.List.{List, []}
-use Prim.Native.Nat.{ℕ, zero, suc}
+use Prim.Native.Nat.{ℕ, zero, suc, _≤_}
 use lib.Dec.{ltb}
 use lib.ListN.{length}
 use lib.Seq.{sets}
@@ -30,6 +30,16 @@ marksCarried (Star d v) = []
 marksCarried (Anchors d v) = []
 marksCarried (Sibling c f) = []
 marksCarried Bad = []
+
+-- "Insert without one, as in the frame program .., means 0.": a frame has no licence
+abbrev pub Unlicensed : Frame → Type 0
+Unlicensed (Format marks cells) = 0 ≤ 0
+Unlicensed (Change day (Insert c x)) = x .licence ≡ 0
+Unlicensed (Change day (Remove c)) = 0 ≤ 0
+Unlicensed (Star d v) = 0 ≤ 0
+Unlicensed (Anchors d v) = 0 ≤ 0
+Unlicensed (Sibling c f) = 0 ≤ 0
+Unlicensed Bad = 0 ≤ 0
 
 -- a frame read: its marks stand in the first places of the words o, as far as they reach, and all else is as it was
 pub record Reading (f : Frame) (o : List ℕ) (r : Code.Frame) (o′ : List ℕ) : Type 0 where

@@ -15,7 +15,7 @@ use Rattle.words.proofs.Frame.{only-none}
 use Rattle.words.proofs.Fits.{part-fits}
 use Rattle.store.specs.Open.{capsIn, opened}
 use Rattle.store.specs.declared.Opened.the-variants.{Mesh}
-use Rattle.map.specs.Cells.{Map, bodyOf}
+use Rattle.map.specs.Cells.{Map, licensedBody}
 use Rattle.map.specs.Answers.{Answer, Check, _when_, answer}
 use Rattle.map.specs.History.{Edit, Insert, Remove, editAnswer, edited, history}
 use Rattle.map.specs.Says.{numberOf, given, refused, verdictSays}
@@ -88,11 +88,12 @@ unfolding fullIn
 room-left j full ef et = leb-false _ _ (sym ef ∙ et)
 
 -- the words of an entry
-pub insert-words : (day c t : ℕ) (marks : List ℕ) → wordsOf (dated day (Insert c (bodyOf t marks))) ≡ entryOf day insertKind c t marks
+pub insert-words : (day c t licence : ℕ) (marks : List ℕ)
+    → wordsOf (dated day (Insert c (licensedBody t licence marks))) ≡ entryOf day insertKind c t licence marks
 unfolding editWords
-insert-words day c t marks = refl
+insert-words day c t licence marks = refl
 
-pub remove-words : (day c : ℕ) (w l : List ℕ) → l ≡ partOf w 0 0 → wordsOf (dated day (Remove c)) ≡ entryOf day removeKind c 0 l
+pub remove-words : (day c : ℕ) (w l : List ℕ) → l ≡ partOf w 0 0 → wordsOf (dated day (Remove c)) ≡ entryOf day removeKind c 0 0 l
 unfolding editWords
 remove-words day c w l e = rw (e ∙ part-fits w 0 0 (omega arith))
 

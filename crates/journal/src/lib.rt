@@ -8,7 +8,7 @@
 ghost use mathlib.Core.Path.{_≡_};
 ghost use Prim.Native.Nat.{_<_};
 ghost use lib.ListN.{length};
-ghost use Rattle.map.specs.Cells.{bodyOf};
+ghost use Rattle.map.specs.Cells.{licensedBody};
 ghost use Rattle.map.specs.History.{Insert, Remove};
 ghost use Rattle.journal_store.specs.Days.{dated};
 ghost use Rattle.journal_store.specs.Entries.{placesOf, entryOf};
@@ -29,7 +29,7 @@ use journal_store::write_entry;
 use journal_store::write_head;
 use map::Refusal;
 use map::Verdict;
-use mesh::insert;
+use mesh::insert_licensed;
 use mesh::remove;
 use numbers::Caps;
 use numbers::Cell;
@@ -104,26 +104,36 @@ fn when_full(own: Opening) -> Verdict
 }
 
 // An entry behind the others.
-fn append(j: &mut [u32], caps: Caps, day: u32, kind: u32, c: Cell, t: u32, marks: &[u32])
+fn append(
+    j: &mut [u32],
+    caps: Caps,
+    day: u32,
+    kind: u32,
+    c: Cell,
+    t: u32,
+    licence: u32,
+    marks: &[u32],
+)
     requires { ⌜ entriesIn (now j) < placesOf (length (now j)) ⌝ }
-    ensures { λ _. ⌜ Appended (now (j .entry)) caps day (entryOf day kind (c .0) t (now (marks .entry))) (now (j .exit)) ⌝ }
+    ensures { λ _. ⌜ Appended (now (j .entry)) caps day (entryOf day kind (c .0) t licence (now (marks .entry))) (now (j .exit)) ⌝ }
 {
     let n = entries_of(j);
     let fold = fold_of(j);
-    write_entry(j, n, day, kind, c, t, marks);
+    write_entry(j, n, day, kind, c, t, licence, marks);
     write_head(j, caps, n + 1, day, 1, fold);
 }
 
-// A cell inserted on a day, and entered.
+// A cell with a licence inserted on a day, and entered.
 pub fn enter_insert(
     mesh: &mut [u32],
     j: &mut [u32],
     day: u32,
     c: Cell,
     t: u32,
+    licence: u32,
     marks: &[u32],
 ) -> Verdict
-    ensures { λ r. ⌜ Entered (now (mesh .entry)) (now (j .entry)) (dated day (Insert (c .0) (bodyOf t (now (marks .entry))))) r (now (mesh .exit)) (now (j .exit)) ⌝ }
+    ensures { λ r. ⌜ Entered (now (mesh .entry)) (now (j .entry)) (dated day (Insert (c .0) (licensedBody t licence (now (marks .entry))))) r (now (mesh .exit)) (now (j .exit)) ⌝ }
 {
     match about_entry(mesh, j, day) {
         Opening::Refused(why) => Verdict::Refused(why),
@@ -131,10 +141,10 @@ pub fn enter_insert(
             if is_full(j) {
                 return when_full(about_insert(mesh, c, t, marks));
             }
-            if let Verdict::Refused(why) = insert(mesh, c, t, marks) {
+            if let Verdict::Refused(why) = insert_licensed(mesh, c, t, licence, marks) {
                 return Verdict::Refused(why);
             }
-            append(j, caps, day, INSERT, c, t, marks);
+            append(j, caps, day, INSERT, c, t, licence, marks);
             Verdict::Accepted
         }
     }
@@ -154,7 +164,7 @@ pub fn enter_remove(mesh: &mut [u32], j: &mut [u32], day: u32, c: Cell) -> Verdi
             if let Verdict::Refused(why) = remove(mesh, c) {
                 return Verdict::Refused(why);
             }
-            append(j, caps, day, REMOVE, c, 0, part(&none, 0, 0));
+            append(j, caps, day, REMOVE, c, 0, 0, part(&none, 0, 0));
             Verdict::Accepted
         }
     }

@@ -15,7 +15,6 @@ use Rattle.words.proofs.Fits.{part-is}
 use Rattle.numbers.specs.declared.Caps.{Caps}
 use Rattle.shapes.specs.Shapes.{shape}
 use Rattle.shapes.proofs.Facts.{facts}
-use Rattle.map.specs.Cells.{bodyOf}
 use Rattle.map.specs.History.{Edit, Insert, Remove}
 use Rattle.journal_store.specs.Days as D
 use Rattle.journal_store.specs.Days.{Dated, Fits, AllFit}
@@ -58,7 +57,7 @@ edit-read : (j : List ℕ) (k day : ℕ) (x : Edit) → ((f : ℕ) → f < entry
     → entryAt k + entryWords ≤ length j → editIn j k ≡ x
 unfolding editIn editWords
 edit-read j k day (Insert c b) words fit room =
-    rw (words 1 (omega arith), words 2 (omega arith), words 3 (omega arith), ← fit, part-is j (entryAt k + 5) (b .marks) long marks)
+    rw (words 1 (omega arith), words 2 (omega arith), words 3 (omega arith), words 4 (omega arith), ← fit, part-is j (entryAt k + 5) (b .marks) long marks)
   where
     few : length (b .marks) ≤ 8
     few = omega (arith, facts (b .code) .marks)
@@ -70,7 +69,7 @@ edit-read j k day (Insert c b) words fit room =
     marks i h =
         let e : entryAt k + (5 + i) ≡ entryAt k + 5 + i = omega arith in
         subst (λ (n : ℕ). getD j n 0 ≡ getD (b .marks) i 0) e
-        (words (5 + i) (omega (arith, few)) ∙ getD-append-add (day ∷ insertKind ∷ c ∷ b .code ∷ 0 ∷ []) (b .marks) i 0)
+        (words (5 + i) (omega (arith, few)) ∙ getD-append-add (day ∷ insertKind ∷ c ∷ b .code ∷ b .licence ∷ []) (b .marks) i 0)
 edit-read j k day (Remove c) words fit room = rw (words 1 (omega arith), words 2 (omega arith))
 
 module _ (j : List ℕ) (caps : Caps) (es : List Dated) (last ever fold : ℕ) (p : Pictured j caps es last ever fold) where

@@ -37,9 +37,9 @@ abbrev pub headOf : Caps → ℕ → ℕ → ℕ → ℕ → List ℕ
 headOf caps entries last ever fold =
     journalMagic ∷ caps .marks ∷ caps .cells ∷ caps .edition ∷ entries ∷ last ∷ ever ∷ fold ∷ []
 
--- an entry: day, kind, cell, type, a word for the licence, the marks; the rest 0
-abbrev pub entryOf : ℕ → ℕ → ℕ → ℕ → List ℕ → List ℕ
-entryOf day kind c t marks = day ∷ kind ∷ c ∷ t ∷ 0 ∷ marks
+-- an entry: day, kind, cell, type, licence, the marks; the rest 0
+abbrev pub entryOf : ℕ → ℕ → ℕ → ℕ → ℕ → List ℕ → List ℕ
+entryOf day kind c t licence marks = day ∷ kind ∷ c ∷ t ∷ licence ∷ marks
 
 -- "1 and a build record to insert, 2 and a cell number to remove"
 abbrev pub insertKind : ℕ
@@ -49,8 +49,8 @@ abbrev pub removeKind : ℕ
 removeKind = 2
 
 unfoldable pub editWords : ℕ → Edit → List ℕ
-editWords day (Insert c x) = entryOf day insertKind c (x .code) (x .marks)
-editWords day (Remove c) = entryOf day removeKind c 0 []
+editWords day (Insert c x) = entryOf day insertKind c (x .code) (x .licence) (x .marks)
+editWords day (Remove c) = entryOf day removeKind c 0 0 []
 
 abbrev pub wordsOf : Dated → List ℕ
 wordsOf e = editWords (e .day) (e .edit)

@@ -8,7 +8,7 @@ use lib.ListN.{getD, length}
 use Rattle.words.specs.Words.{partOf}
 use Rattle.numbers.specs.declared.Caps.{Caps}
 use Rattle.shapes.specs.Shapes.{shape}
-use Rattle.map.specs.Cells.{bodyOf}
+use Rattle.map.specs.Cells.{licensedBody}
 use Rattle.map.specs.History.{Edit, Insert, Remove}
 use Rattle.journal_store.specs.Days.{Dated}
 use Rattle.journal_store.specs.Entries.{journalMagic, headWords, entryWords, placesOf, entryAt, headOf, insertKind, wordsAt}
@@ -41,10 +41,13 @@ dayIn j k = getD j (entryAt k) 0
 abbrev pub typeIn : List ℕ → ℕ → ℕ
 typeIn j k = getD j (entryAt k + 3) 0
 
+abbrev pub licenceIn : List ℕ → ℕ → ℕ
+licenceIn j k = getD j (entryAt k + 4) 0
+
 unfoldable pub editIn : List ℕ → ℕ → Edit
 editIn j k =
     cond (eqb (getD j (entryAt k + 1) 0) insertKind)
-    (Insert (getD j (entryAt k + 2) 0) (bodyOf (typeIn j k) (partOf j (entryAt k + 5) (shape (typeIn j k) .marks))))
+    (Insert (getD j (entryAt k + 2) 0) (licensedBody (typeIn j k) (licenceIn j k) (partOf j (entryAt k + 5) (shape (typeIn j k) .marks))))
     (Remove (getD j (entryAt k + 2) 0))
 
 -- the edits of the first n entries

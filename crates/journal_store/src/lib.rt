@@ -7,7 +7,7 @@
 // dated edits alone; no other crate knows a word's number.
 ghost use mathlib.Core.Path.{_≡_};
 ghost use Rattle.journal_store.specs.Entries.{entryAt, headOf, entryOf, placesOf, usedOf};
-ghost use Rattle.journal_store.specs.Journals.{entriesIn, lastIn, everIn, foldIn, dayIn, typeIn, isJournal, Counted};
+ghost use Rattle.journal_store.specs.Journals.{entriesIn, lastIn, everIn, foldIn, dayIn, typeIn, licenceIn, isJournal, Counted};
 ghost use Rattle.journal_store.specs.Writes.{Copied, Moved};
 ghost use Prim.Native.Nat.{_+_};
 ghost use lib.ListN.{getD, length};
@@ -118,7 +118,7 @@ pub fn day_of(j: &[u32], k: u32) -> u32
     word(j, entry_at(k))
 }
 
-// The kind of its edit, the cell, the type.
+// The kind of its edit, the cell, the type, the licence.
 pub fn kind_of(j: &[u32], k: u32) -> u32
     ensures { λ r. ⌜ r ≡ getD (now (j .entry)) (entryAt k + 1) 0 ⌝ }
 {
@@ -135,6 +135,12 @@ pub fn type_of(j: &[u32], k: u32) -> u32
     ensures { λ r. ⌜ r ≡ typeIn (now (j .entry)) k ⌝ }
 {
     word(j, entry_at(k) + 3)
+}
+
+pub fn licence_of(j: &[u32], k: u32) -> u32
+    ensures { λ r. ⌜ r ≡ licenceIn (now (j .entry)) k ⌝ }
+{
+    word(j, entry_at(k) + 4)
 }
 
 // Where its marks begin.
@@ -178,10 +184,19 @@ pub fn write_head(j: &mut [u32], caps: Caps, entries: u32, last: u32, ever: u32,
 }
 
 // An entry, all its 16 words.
-pub fn write_entry(j: &mut [u32], k: u32, day: u32, kind: u32, c: Cell, t: u32, marks: &[u32])
-    ensures { λ _. ⌜ Copied (entryOf day kind (c .0) t (now (marks .entry))) (entryAt k) 16 (now (j .entry)) (now (j .exit)) ⌝ }
+pub fn write_entry(
+    j: &mut [u32],
+    k: u32,
+    day: u32,
+    kind: u32,
+    c: Cell,
+    t: u32,
+    licence: u32,
+    marks: &[u32],
+)
+    ensures { λ _. ⌜ Copied (entryOf day kind (c .0) t licence (now (marks .entry))) (entryAt k) 16 (now (j .entry)) (now (j .exit)) ⌝ }
 {
-    let words = [day, kind, c.0, t, 0];
+    let words = [day, kind, c.0, t, licence];
     let at = entry_at(k);
     copy_words(&words, j, at, FIRST_WORDS);
     copy_words(marks, j, at + FIRST_WORDS, MARK_WORDS);

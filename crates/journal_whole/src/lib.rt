@@ -15,6 +15,7 @@ use journal_store::fold_of;
 use journal_store::is_journal;
 use journal_store::kind_of;
 use journal_store::last_of;
+use journal_store::licence_of;
 use journal_store::marks_at;
 use journal_store::type_of;
 use journal_store::used_of;
@@ -59,9 +60,6 @@ fn entry_good(j: &[u32], k: u32) -> bool
     let t = type_of(j, k);
     let kind = kind_of(j, k);
     let at = marks_at(k);
-    if word(j, at - 1) != 0 {
-        return false;
-    }
     if kind == 1 {
         let n = mark_count(t) as usize;
         return zeros(j, at + n, MARK_WORDS - n);
@@ -70,6 +68,9 @@ fn entry_good(j: &[u32], k: u32) -> bool
         return false;
     }
     if t != 0 {
+        return false;
+    }
+    if licence_of(j, k) != 0 {
         return false;
     }
     zeros(j, at, MARK_WORDS)

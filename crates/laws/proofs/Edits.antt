@@ -14,7 +14,7 @@ use Rattle.lists.proofs.Sets.{same-sym}
 use Rattle.lists.proofs.Select.{select-in, select-out}
 use Rattle.numbers.specs.declared.Caps.{Caps}
 use Rattle.shapes.specs.Shapes.{shape, shapes, noShape}
-use Rattle.map.specs.Cells.{Body, bodyOf, Map, noCell, bodyIn, mapOf, live, dimensionAt, holds, cellsOf}
+use Rattle.map.specs.Cells.{Body, bodyOf, licensedBody, Map, noCell, bodyIn, mapOf, live, dimensionAt, holds, cellsOf}
 use Rattle.map.specs.Stars.{holders}
 use Rattle.map.specs.Answers.{Check, _when_, answer, third, insertChecks, cellChecks}
 use Rattle.map.specs.History.{empty, Edit, Insert, Remove, editAnswer, put, changed, edited, history, build, buildFrom}
@@ -54,8 +54,9 @@ unfolding buildFrom empty mapOf
 build-keeps zero place m words = refl
 build-keeps (suc n) place m [] = refl
 build-keeps (suc n) place m (c ∷ []) = refl
-build-keeps (suc n) place m (c ∷ t ∷ rest) =
-    let e : Edit = Insert c (bodyOf t (take (shape t .marks) rest)) in
+build-keeps (suc n) place m (c ∷ t ∷ []) = refl
+build-keeps (suc n) place m (c ∷ t ∷ licence ∷ rest) =
+    let e : Edit = Insert c (licensedBody t licence (take (shape t .marks) rest)) in
     ⊎-elim (λ (ok : eqb (editAnswer m e .refusal) 0 ≡ true). rw (ok, buildFrom) (build-keeps n (suc place) (changed m e) (drop (shape t .marks) rest) ∙ changed-caps m e)) (λ (no : eqb (editAnswer m e .refusal) 0 ≡ false). rw (no, buildFrom))
     (either (eqb (editAnswer m e .refusal) 0))
 
@@ -128,6 +129,11 @@ module _ (m : Map) (c : ℕ) (x : Body) where
         r .room,
         has-none (λ v. leb mostAround (length (holders m v))) (x .marks) (λ v h. lt-leb mostAround _ (r .few v h)),
       )
+
+-- no check of an insertion looks at the licence
+pub licence-unseen : (m : Map) (c t licence : ℕ) (marks : List ℕ) → insertChecks m c (licensedBody t licence marks) ≡ insertChecks m c (bodyOf t marks)
+unfolding insertChecks third
+licence-unseen m c t licence marks = refl
 
 module _ (m : Map) (c : ℕ) where
   -- an accepted removal is that of a live cell

@@ -13,7 +13,7 @@ use Rattle.shapes.specs.Shapes.{shape}
 use Rattle.lists.specs.Lists.{has, all, select, sameSet}
 use Rattle.lists.proofs.Bools.{clash, not-true-false, and-left, and-both, or-left, or-right}
 use Rattle.numbers.specs.declared.Caps.{Caps}
-use Rattle.map.specs.Cells.{Body, bodyOf, Live, Map, noCell, bodyIn, mapOf, live, liveAt, liveCells, dimensionAt, holds}
+use Rattle.map.specs.Cells.{Body, licensedBody, Live, Map, noCell, bodyIn, mapOf, live, liveAt, liveCells, dimensionAt, holds}
 use Rattle.map.specs.Stars.{holders}
 use Rattle.map.specs.History.{empty, Edit, Insert, editAnswer, put, changed, edited, history, Outcome, build, buildFrom}
 use Rattle.map.specs.Afresh.{Shuffled, numbers, Distinct, buildWords}
@@ -210,13 +210,13 @@ module _ (m : Map) where
 
 -- a record that is accepted is made, and the build goes on behind it
 build-next : (n place : ℕ) (m : Map) (c : ℕ) (x : Body) (words : List ℕ) → editAnswer m (Insert c x) .refusal ≡ 0
-    → buildFrom (suc n) place m (c ∷ x .code ∷ (x .marks ++ words)) ≡ buildFrom n (suc place) (changed m (Insert c x)) words
+    → buildFrom (suc n) place m (c ∷ x .code ∷ x .licence ∷ (x .marks ++ words)) ≡ buildFrom n (suc place) (changed m (Insert c x)) words
 unfolding buildFrom
 build-next n place m c x words a =
     let t : ℕ = x .code in
     let count = may-insert m c x a .count in
     let front : take (shape t .marks) (x .marks ++ words) ≡ x .marks = take-at (x .marks) words _ count in
-    let ok : editAnswer m (Insert c (bodyOf t (take (shape t .marks) (x .marks ++ words)))) .refusal ≡ 0 = rw front a in
+    let ok : editAnswer m (Insert c (licensedBody t (x .licence) (take (shape t .marks) (x .marks ++ words)))) .refusal ≡ 0 = rw front a in
     rw (ok, buildFrom) (rw (front, drop-at (x .marks) words _ count))
 
 -- a build of cells that are each accepted in turn makes their insertions

@@ -22,7 +22,7 @@ use Rattle.numbers.specs.Editions.{secondEdition}
 use Rattle.numbers.specs.declared.Caps.{Caps}
 use Rattle.shapes.specs.Shapes.{shape}
 use Rattle.shapes.specs.Facts.{dimensionOf}
-use Rattle.map.specs.Cells.{Body, bodyOf, Map, noCell, mapOf, bodyIn, dimensionAt, setsOf, facetsAt}
+use Rattle.map.specs.Cells.{Body, licensedBody, Map, noCell, mapOf, bodyIn, dimensionAt, setsOf, facetsAt}
 use Rattle.map.specs.Siblings.{Half, isHalf, marksOf, sharers, siblings}
 use Rattle.map.specs.Answers.{third}
 use Rattle.map.specs.History.{empty, Edit, Insert, Remove, editAnswer, put, changed, edited, history, build, buildFrom}
@@ -228,8 +228,9 @@ unfolding buildFrom
 build-leaves zero place m words s t = (s, t)
 build-leaves (suc n) place m [] s t = (s, t)
 build-leaves (suc n) place m (c ∷ []) s t = (sound-empty (m .caps), two-empty (m .caps))
-build-leaves (suc n) place m (c ∷ k ∷ rest) s t =
-    let e : Edit = Insert c (bodyOf k (take (shape k .marks) rest)) in
+build-leaves (suc n) place m (c ∷ k ∷ []) s t = (sound-empty (m .caps), two-empty (m .caps))
+build-leaves (suc n) place m (c ∷ k ∷ licence ∷ rest) s t =
+    let e : Edit = Insert c (licensedBody k licence (take (shape k .marks) rest)) in
     ⊎-elim (λ (ok : eqb (editAnswer m e .refusal) 0 ≡ true). let a = eqb-true _ 0 ok in
     rw (ok, buildFrom) (build-leaves n (suc place) (changed m e) (drop (shape k .marks) rest) (sound-changed m s e a) (two-changed m s t e a)))
     (λ (no : eqb (editAnswer m e .refusal) 0 ≡ false). rw (no, buildFrom) (sound-empty (m .caps), two-empty (m .caps)))

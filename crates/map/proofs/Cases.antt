@@ -5,17 +5,17 @@ use mathlib.Core.List.{List, [], _∷_}
 use Rattle.lists.specs.Lists.{any, all, has, same, sameSet, repeats, keep, select, first, after, listOf}
 use Rattle.numbers.specs.Half.{halfOf}
 use Rattle.shapes.specs.Shapes as S
-use Rattle.map.specs.Cells.{noCell, bodyIn, mapOf, live, dimensionAt, holds, facetsAt, shares, cellsOf}
+use Rattle.map.specs.Cells.{licensedBody, noCell, bodyIn, mapOf, live, dimensionAt, holds, facetsAt, shares, cellsOf}
 use Rattle.map.specs.Siblings.{isHalf, marksOf, sharers, siblings, sibling, border}
 use Rattle.map.specs.Ways.{wayNumber, turned, rotation, runs, direction, between, way}
 use Rattle.map.specs.Groups.{grow, grown, groupOf}
 use Rattle.map.specs.Stars.{holders, star, linked, group, halvesAt, anchor, anchors}
-use Rattle.map.specs.Answers.{_when_, answer, listAnswer, third, insertChecks, cellChecks, halfChecks, starChecks, siblingAnswer, starAnswer, anchorsAnswer}
-use Rattle.map.specs.History.{empty, put, editAnswer, changed, edited, history}
-use Rattle.map.specs.Cases.{CaseRow, Sibling, Anchors, Try, Borders, Inner, AllStars, AllAnchors, joined, replied, ask, _asked_gives_, second, bar, tri, quad, tetra, p2, p3, p4, p5, p6, p7, p8, p9, p12, twoQuads, bars, twoTetras, brick, bricks, solids, threeTetras, oneGone, rows, holdsRow, hold}
+use Rattle.map.specs.Answers.{_when_, answer, listAnswer, third, insertChecks, cellChecks, halfChecks, starChecks, licenceAnswer, siblingAnswer, starAnswer, anchorsAnswer}
+use Rattle.map.specs.History.{Insert, empty, put, editAnswer, changed, edited, history}
+use Rattle.map.specs.Cases.{CaseRow, Licence, Sibling, Anchors, Try, Borders, Inner, AllStars, AllAnchors, joined, replied, ask, _asked_gives_, second, bar, tri, quad, tetra, p2, p3, p4, p5, p6, p7, p8, p9, p12, twoQuads, bars, twoTetras, brick, bricks, solids, threeTetras, oneGone, licences, rows, holdsRow, hold}
 
 pub cases : hold rows ≡ true
-unfolding any all has sameSet repeats keep select first after halfOf S.noShape S.shapes S.shape S.facetCount noCell bodyIn mapOf live dimensionAt holds facetsAt shares cellsOf isHalf marksOf sharers siblings sibling border listOf wayNumber turned rotation runs direction between way grow grown groupOf holders star linked group halvesAt anchor anchors _when_ answer listAnswer third insertChecks cellChecks halfChecks starChecks siblingAnswer starAnswer anchorsAnswer empty put editAnswer changed edited history joined replied ask _asked_gives_ second same bar tri quad tetra p2 p3 p4 p5 p6 p7 p8 p9 p12 twoQuads bars twoTetras brick bricks solids threeTetras oneGone rows holdsRow hold
+unfolding any all has sameSet repeats keep select first after halfOf S.noShape S.shapes S.shape S.facetCount noCell bodyIn mapOf live dimensionAt holds facetsAt shares cellsOf isHalf marksOf sharers siblings sibling border listOf wayNumber turned rotation runs direction between way grow grown groupOf holders star linked group halvesAt anchor anchors _when_ answer listAnswer third insertChecks cellChecks halfChecks starChecks licenceAnswer siblingAnswer starAnswer anchorsAnswer empty put editAnswer changed edited history joined replied ask _asked_gives_ second same bar tri quad tetra p2 p3 p4 p5 p6 p7 p8 p9 p12 twoQuads bars twoTetras brick bricks solids threeTetras oneGone licences rows holdsRow hold
 cases = refl
 
 -- the outline's rows and those of the requests, each with one answer that a fault would give
@@ -53,11 +53,16 @@ wrongRows =
     ∷ (solids asked Sibling 0 5 gives 0 ∷ 16 ∷ 2 ∷ [])
     -- request 8: 19 comes before 10
     ∷ second (p6 asked Try (tetra 2 4 0 1 2) gives 19 ∷ [])
+    -- request 10: the licence of another cell; that of a cell that was removed; one where none was given; a cell alike of another licence
+    ∷ (licences asked Licence 0 gives 0 ∷ 7 ∷ [])
+    ∷ (licences asked Licence 1 gives 0 ∷ 7 ∷ [])
+    ∷ (licences asked Licence 2 gives 0 ∷ 7 ∷ [])
+    ∷ (licences asked Try (Insert 1 (licensedBody 2 7 (2 ∷ 0 ∷ 1 ∷ []))) gives 0 ∷ [])
     ∷ []
 
 unfoldable pub fails : CaseRow → Bool
 fails r = not (holdsRow r)
 
 pub wrong : all fails wrongRows ≡ true
-unfolding any all has sameSet repeats keep select first after halfOf S.noShape S.shapes S.shape S.facetCount noCell bodyIn mapOf live dimensionAt holds facetsAt shares cellsOf isHalf marksOf sharers siblings sibling border listOf wayNumber turned rotation runs direction between way grow grown groupOf holders star linked group halvesAt anchor anchors _when_ answer listAnswer third insertChecks cellChecks halfChecks starChecks siblingAnswer starAnswer anchorsAnswer empty put editAnswer changed edited history joined replied ask _asked_gives_ second same bar tri quad tetra p2 p3 p4 p5 p6 p7 p8 p9 p12 twoQuads bars twoTetras brick bricks solids threeTetras oneGone wrongRows holdsRow fails
+unfolding any all has sameSet repeats keep select first after halfOf S.noShape S.shapes S.shape S.facetCount noCell bodyIn mapOf live dimensionAt holds facetsAt shares cellsOf isHalf marksOf sharers siblings sibling border listOf wayNumber turned rotation runs direction between way grow grown groupOf holders star linked group halvesAt anchor anchors _when_ answer listAnswer third insertChecks cellChecks halfChecks starChecks licenceAnswer siblingAnswer starAnswer anchorsAnswer empty put editAnswer changed edited history joined replied ask _asked_gives_ second same bar tri quad tetra p2 p3 p4 p5 p6 p7 p8 p9 p12 twoQuads bars twoTetras brick bricks solids threeTetras oneGone licences wrongRows holdsRow fails
 wrong = refl

@@ -21,7 +21,7 @@ numbers cells = map (λ (x : Live). x .number) cells
 abbrev pub Distinct : List Live → Type 0
 Distinct cells = repeats (numbers cells) ≡ false
 
--- the words of a build of a list: for each cell its number, its type code and its marks
+-- the words of a build of a list: for each cell its number, its type code, its licence and its marks
 unfoldable pub buildWords : List Live → List ℕ
 buildWords [] = []
-buildWords (x ∷ xs) = x .number ∷ x .body .code ∷ (x .body .marks ++ buildWords xs)
+buildWords (x ∷ xs) = x .number ∷ x .body .code ∷ x .body .licence ∷ (x .body .marks ++ buildWords xs)

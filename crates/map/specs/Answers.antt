@@ -91,6 +91,10 @@ typeChecks t = (6 when eqb (shape t .dimension) 0) ∷ []
 unfoldable pub typeAnswer : Map → ℕ → Answer
 typeAnswer m c = answer (cellChecks m c) (m .at c .code ∷ [])
 
+-- "a licence number of 32 bits, given at insertion and read back with type and marks"
+unfoldable pub licenceAnswer : Map → ℕ → Answer
+licenceAnswer m c = answer (cellChecks m c) (m .at c .licence ∷ [])
+
 -- "where the type query refuses, that part is empty"
 unfoldable pub marksPart : Map → ℕ → List ℕ
 marksPart m c = cond (eqb (typeAnswer m c .refusal) 0) (m .at c .marks) []

@@ -5,14 +5,15 @@ use Prim.Native.Nat.{ℕ, zero, suc, _+_, _*_}
 use Rattle.lists.specs.Lists.{all, same, select}
 use Rattle.numbers.specs.Sizes.{mostAround, capsUnder}
 use Rattle.numbers.specs.Editions.{firstEdition, secondEdition}
-use Rattle.map.specs.Cells.{bodyOf, Map}
+use Rattle.map.specs.Cells.{bodyOf, licensedBody, Map}
 use Rattle.map.specs.Siblings.{isHalf, border}
 use Rattle.map.specs.Stars.{star, anchors}
-use Rattle.map.specs.Answers.{Answer, siblingAnswer, starAnswer, anchorsAnswer}
+use Rattle.map.specs.Answers.{Answer, licenceAnswer, siblingAnswer, starAnswer, anchorsAnswer}
 use Rattle.map.specs.History.{Edit, Insert, Remove, empty, history, editAnswer}
 
 pub data Question : Type 0 where
-  -- of a cell and a facet; of a dimension and a mark; an edit tried
+  -- of a cell; of a cell and a facet; of a dimension and a mark; an edit tried
+  Licence : ℕ → Question
   Sibling : ℕ → ℕ → Question
   Star : ℕ → ℕ → Question
   Anchors : ℕ → ℕ → Question
@@ -33,6 +34,7 @@ replied a l = a .refusal ∷ l
 
 -- the refusal number, and what is given
 unfoldable pub ask : Map → Question → List ℕ
+ask m (Licence c) = replied (licenceAnswer m c) (licenceAnswer m c .values)
 ask m (Sibling c f) = replied (siblingAnswer m c f) (siblingAnswer m c f .values)
 ask m (Star d v) = replied (starAnswer m d v mostAround) (star m d v)
 ask m (Anchors d v) = replied (anchorsAnswer m d v mostAround) (anchors m d v)
@@ -120,6 +122,11 @@ threeTetras = tetra 0 0 1 2 3 ∷ tetra 1 0 2 1 4 ∷ tetra 2 1 0 2 5 ∷ []
 unfoldable pub oneGone : List Edit
 oneGone = tetra 0 0 1 2 3 ∷ tetra 1 0 2 1 4 ∷ Remove 0 ∷ []
 
+-- cell 0 with a licence, cell 1 with another that is removed, cell 2 without one
+unfoldable pub licences : List Edit
+licences =
+    Insert 0 (licensedBody 2 4294967295 (0 ∷ 1 ∷ 2 ∷ [])) ∷ Insert 1 (licensedBody 1 7 (0 ∷ 1 ∷ [])) ∷ Remove 1 ∷ tri 2 2 1 3 ∷ []
+
 unfoldable pub rows : List CaseRow
 rows =
     -- P1 no cells: every star and anchor list is empty
@@ -191,6 +198,12 @@ rows =
     ∷ (bars asked Sibling 0 0 gives 0 ∷ 8 ∷ 1 ∷ [])
     ∷ (twoTetras asked Sibling 0 0 gives 0 ∷ 8 ∷ 1 ∷ [])
     ∷ (solids asked Sibling 0 5 gives 0 ∷ 16 ∷ 3 ∷ [])
+    -- request 10: the licence is read back; of a cell that was removed there is none; "Insert without one .. means 0."
+    ∷ (licences asked Licence 0 gives 0 ∷ 4294967295 ∷ [])
+    ∷ (licences asked Licence 1 gives 5 ∷ [])
+    ∷ (licences asked Licence 2 gives 0 ∷ 0 ∷ [])
+    -- another licence makes no other cell: 10
+    ∷ (licences asked Try (Insert 1 (licensedBody 2 7 (2 ∷ 0 ∷ 1 ∷ []))) gives 10 ∷ [])
     ∷ []
 
 -- a row holds: the mesh of its edits answers as it says

@@ -9,14 +9,19 @@ use Rattle.lists.specs.Lists.{has, any, select, sameSet}
 use Rattle.numbers.specs.declared.Caps.{Caps}
 use Rattle.shapes.specs.Shapes.{shape}
 
--- what a cell is: its type code and its marks
+-- what a cell is: its type code, its licence and its marks
 pub record Body : Type 0 where
   pub code : ℕ
+  pub licence : ℕ
   pub marks : List ℕ
 
--- the cell of a type code and marks
+-- "Every cell record gains a licence number of 32 bits, given at insertion": the cell of a type code, a licence and marks
+abbrev pub licensedBody : ℕ → ℕ → List ℕ → Body
+licensedBody t licence marks = record { code = t; licence = licence; marks = marks }
+
+-- the cell of a type code and marks: "Insert without one .. means 0."
 abbrev pub bodyOf : ℕ → List ℕ → Body
-bodyOf t marks = record { code = t; marks = marks }
+bodyOf t marks = licensedBody t 0 marks
 
 -- a live cell: its number and what it is
 pub record Live : Type 0 where

@@ -6,7 +6,7 @@ use lib.Dec.{eqb}
 use lib.ListN.{length, take, drop}
 use Rattle.numbers.specs.declared.Caps.{Caps}
 use Rattle.shapes.specs.Shapes.{shape}
-use Rattle.map.specs.Cells.{Body, bodyOf, Map, noCell, mapOf}
+use Rattle.map.specs.Cells.{Body, licensedBody, Map, noCell, mapOf}
 use Rattle.map.specs.Answers.{Answer, answer, insertChecks, cellChecks}
 
 -- a formatted mesh
@@ -54,14 +54,15 @@ pub record Outcome : Type 0 where
   pub place : ℕ
   pub map : Map
 
--- "A build record is a cell number, a type code, then that type's marks." Each takes a word at least, so n words suffice for n
--- records. "At the first refused record it answers number and record place (from 0) and leaves a formatted mesh with no live cell."
+-- "A build record is a cell number, a type code, then that type's marks"; "build records .. give it after the type, and missing it is 7 as
+-- there". Each takes a word at least, so n words suffice for n records. "At the first refused record it answers number and record place (from 0) and leaves a formatted mesh with no live cell."
 unfoldable pub buildFrom : ℕ → ℕ → Map → List ℕ → Outcome
 buildFrom zero place m words = record { refusal = 0; place = 0; map = m }
 buildFrom (suc n) place m [] = record { refusal = 0; place = 0; map = m }
 buildFrom (suc n) place m (c ∷ []) = record { refusal = 7; place = place; map = empty (m .caps) }
-buildFrom (suc n) place m (c ∷ t ∷ rest) =
-    let e : Edit = Insert c (bodyOf t (take (shape t .marks) rest)) in
+buildFrom (suc n) place m (c ∷ t ∷ []) = record { refusal = 7; place = place; map = empty (m .caps) }
+buildFrom (suc n) place m (c ∷ t ∷ licence ∷ rest) =
+    let e : Edit = Insert c (licensedBody t licence (take (shape t .marks) rest)) in
     elim (eqb (editAnswer m e .refusal) 0) [
       | true ↦ buildFrom n (suc place) (changed m e) (drop (shape t .marks) rest)
       | false ↦ record { refusal = editAnswer m e .refusal; place = place; map = empty (m .caps) }

@@ -6,7 +6,7 @@ use lib.Dec.{eqb}
 use lib.ListN.{take}
 use Rattle.shapes.specs.Shapes.{shape}
 use Rattle.map.specs.Answers.{Answer}
-use Rattle.map.specs.Cells.{bodyOf, Map}
+use Rattle.map.specs.Cells.{licensedBody, Map}
 use Rattle.map.specs.History.{Edit, Insert, Remove, editAnswer, changed}
 
 -- at an edit's turn: the edit with how many words it takes behind its kind, or the refusal where there is none
@@ -14,11 +14,13 @@ pub data Turn : Type 0 where
   Is : Edit → ℕ → Turn
   Not : ℕ → Turn
 
--- "7 for a missing number or type; missing marks are 7 in its place": as many as there are
+-- "7 for a missing number or type", and listed edits give the licence "after the type, and missing it is 7 as there"; "missing marks are 7 in its
+-- place": as many as there are
 unfoldable pub insertTurn : List ℕ → Turn
 insertTurn [] = Not 7
 insertTurn (c ∷ []) = Not 7
-insertTurn (c ∷ t ∷ rest) = Is (Insert c (bodyOf t (take (shape t .marks) rest))) (2 + shape t .marks)
+insertTurn (c ∷ t ∷ []) = Not 7
+insertTurn (c ∷ t ∷ licence ∷ rest) = Is (Insert c (licensedBody t licence (take (shape t .marks) rest))) (3 + shape t .marks)
 
 unfoldable pub removeTurn : List ℕ → Turn
 removeTurn [] = Not 7

@@ -15,11 +15,11 @@ use Rattle.numbers.specs.Sizes.{mostCapacity}
 use Rattle.shapes.specs.Sizes.{mostCode}
 use Rattle.store.specs.Fields.{Count}
 use Rattle.store.specs.Slots.{InHead, read}
-use Rattle.map.specs.Cells.{Body, Map, cellsOf}
-use Rattle.map.specs.Answers.{answer, insertChecks}
+use Rattle.map.specs.Cells.{Body, bodyOf, licensedBody, Map, cellsOf}
+use Rattle.map.specs.Answers.{Check, answer, insertChecks}
 use Rattle.map.specs.Sound.{Sound}
 use Rattle.map.specs.History.{Edit, Insert, Remove, editAnswer, changed}
-use Rattle.laws.proofs.Edits.{MayInsert, may-insert}
+use Rattle.laws.proofs.Edits.{MayInsert, may-insert, licence-unseen}
 use Rattle.picture.specs.State.{State, stateOf}
 use Rattle.picture.specs.Picture.{Pic, Wf}
 use Rattle.picture.specs.Changes.{withBody, withCount}
@@ -72,7 +72,8 @@ module _ (caps : Caps) (c : ℕ) (x : Body) (rows : List (List (List ℕ))) (typ
           let q₄ = (rw (sym e) at p₄) .state _ q₃ a in
           inserted m (wf .sound) c x r (wf .two) w₄ (rw n at q₄)
 
--- the answer of an insertion is that of its checks
-pub insert-says : (m : Map) (c : ℕ) (x : Body) → editAnswer m (Insert c x) ≡ answer (insertChecks m c x) []
+-- the answer of an insertion is that of its checks, which look at no licence
+pub insert-says : (m : Map) (c t licence : ℕ) (marks : List ℕ)
+    → editAnswer m (Insert c (licensedBody t licence marks)) ≡ answer (insertChecks m c (bodyOf t marks)) []
 unfolding editAnswer
-insert-says m c x = refl
+insert-says m c t licence marks = ap (λ (checks : List Check). answer checks []) (licence-unseen m c t licence marks)

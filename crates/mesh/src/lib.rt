@@ -7,7 +7,7 @@ ghost use mathlib.Core.Path.{_≡_};
 ghost use lib.Dec.{ltb};
 ghost use lib.ListN.{length};
 ghost use Rattle.edit.specs.Edit.{Made};
-ghost use Rattle.map.specs.Cells.{bodyOf};
+ghost use Rattle.map.specs.Cells.{bodyOf, licensedBody};
 ghost use Rattle.map.specs.History.{Insert, Remove};
 ghost use Rattle.lists.specs.Filled.{Filled};
 ghost use Rattle.facet.specs.Facet.{marksIn};
@@ -38,15 +38,15 @@ use words::put;
 use words::word;
 
 // A cell that was admitted, put into the mesh: its record, its chains, what is around it, the count.
-fn make_insert(w: &mut [u32], caps: Caps, c: Cell, t: u32, marks: &[u32])
-    ensures { λ _. ⌜ Made caps (now (w .entry)) (now (w .exit)) (Insert (c .0) (bodyOf t (now (marks .entry)))) ⌝ }
+fn make_insert(w: &mut [u32], caps: Caps, c: Cell, t: u32, licence: u32, marks: &[u32])
+    ensures { λ _. ⌜ Made caps (now (w .entry)) (now (w .exit)) (Insert (c .0) (licensedBody t licence (now (marks .entry)))) ⌝ }
 {
     let rows = facet_table();
     let count = count_of(w, caps, t);
     if MOST_CAPACITY < count {
         return;
     }
-    put_body(w, caps, c, t, marks, in_far(marks));
+    put_body(w, caps, c, t, licence, marks, in_far(marks));
     relink_all(w, caps, c, marks, true);
     settle(w, caps, &rows, t, marks);
     put_count(w, caps, t, count + 1);
@@ -59,17 +59,24 @@ fn in_far(marks: &[u32]) -> bool
     (NEAR_MARKS as usize) < marks.len()
 }
 
-// A cell of the caller's number, of a type, on marks.
-pub fn insert(w: &mut [u32], c: Cell, t: u32, marks: &[u32]) -> Verdict
-    ensures { λ r. ⌜ Edited (now (w .entry)) (Insert (c .0) (bodyOf t (now (marks .entry)))) r (now (w .exit)) ⌝ }
+// A cell of the caller's number, of a type, with a licence, on marks.
+pub fn insert_licensed(w: &mut [u32], c: Cell, t: u32, licence: u32, marks: &[u32]) -> Verdict
+    ensures { λ r. ⌜ Edited (now (w .entry)) (Insert (c .0) (licensedBody t licence (now (marks .entry)))) r (now (w .exit)) ⌝ }
 {
     match about_insert(w, c, t, marks) {
         Opening::Refused(why) => Verdict::Refused(why),
         Opening::Open(caps) => {
-            make_insert(w, caps, c, t, marks);
+            make_insert(w, caps, c, t, licence, marks);
             Verdict::Accepted
         }
     }
+}
+
+// A cell of the caller's number, of a type, on marks, without a licence.
+pub fn insert(w: &mut [u32], c: Cell, t: u32, marks: &[u32]) -> Verdict
+    ensures { λ r. ⌜ Edited (now (w .entry)) (Insert (c .0) (bodyOf t (now (marks .entry)))) r (now (w .exit)) ⌝ }
+{
+    insert_licensed(w, c, t, 0, marks)
 }
 
 // A cell of this type on these marks, taken out of the mesh: its chains, its record, what is around it, the count.
@@ -82,7 +89,7 @@ fn take_out(w: &mut [u32], caps: Caps, c: Cell, t: u32, marks: &[u32])
         return;
     }
     relink_all(w, caps, c, marks, false);
-    put_body(w, caps, c, 0, part(marks, 0, 0), in_far(marks));
+    put_body(w, caps, c, 0, 0, part(marks, 0, 0), in_far(marks));
     clear_siblings(w, caps, c);
     settle(w, caps, &rows, t, marks);
     put_count(w, caps, t, count - 1);

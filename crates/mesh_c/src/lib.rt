@@ -8,9 +8,9 @@
 ghost use mathlib.Core.Path.{_≡_};
 ghost use Rattle.numbers.specs.Half.{halfOf};
 ghost use Rattle.numbers.specs.Sizes.{capsUnder, capacities};
-ghost use Rattle.map.specs.Answers.{cellChecks, halfChecks, starChecks, typeChecks, typeAnswer, siblingAnswer, borderAnswer, firstAnchorAnswer, lookupAnswer, countAnswer, editionAnswer};
+ghost use Rattle.map.specs.Answers.{cellChecks, halfChecks, starChecks, typeChecks, typeAnswer, licenceAnswer, siblingAnswer, borderAnswer, firstAnchorAnswer, lookupAnswer, countAnswer, editionAnswer};
 ghost use Rattle.map.specs.Free.{noChecks, capacitiesAnswer, freeAnswer, liveNumbers};
-ghost use Rattle.map.specs.Cells.{bodyOf, cellsOf, neighbours};
+ghost use Rattle.map.specs.Cells.{bodyOf, licensedBody, cellsOf, neighbours};
 ghost use Rattle.map.specs.Siblings.{cycle};
 ghost use Rattle.map.specs.Ways.{cycleWays};
 ghost use Rattle.map.specs.Stars.{star, anchors};
@@ -18,11 +18,12 @@ ghost use Rattle.map.specs.History.{Insert, Remove};
 ghost use Rattle.journal_store.specs.Days.{dated};
 ghost use Rattle.journal.specs.Calls.{Begun, Entered};
 ghost use Rattle.year.specs.Calls.{OnDay, Folded};
+ghost use Rattle.matcher.specs.Complaint.{Named};
 ghost use Rattle.journal_whole.specs.Checks.{WholeJournal};
 ghost use Rattle.positions.specs.Replies.{measureReply, centreReply};
 ghost use Rattle.mesh_c.specs.Answered.{Answered, Faced, Sought, Listed, ListedTwo, MarksTold, Judged};
 ghost use Rattle.mesh_c.specs.Changed.{Emptied, Raised, Changed};
-ghost use Rattle.mesh_c.specs.Journals.{ByNumber, ByBit};
+ghost use Rattle.mesh_c.specs.Journals.{ByNumber, ByCount, ByBit};
 ghost use Rattle.mesh_c.specs.Mornings.{EditsTold};
 ghost use Rattle.mesh_c.specs.Placed.{Sized, Centre, Corners};
 ghost use Rattle.mesh_c.specs.Surfaces.{SurfaceRead, SurfaceWritten};
@@ -67,7 +68,9 @@ use listing::neighbours;
 use listing::star;
 use map::Refusal;
 use map::Value;
+use matcher::licences;
 use mesh::insert;
+use mesh::insert_licensed;
 use mesh::remove;
 use numbers::Cell;
 use numbers::Mark;
@@ -137,6 +140,20 @@ pub extern "C" fn mk_insert(mesh: &mut [u32], cell: u32, code: u32, marks: &[u32
     tell_verdict(insert(mesh, Cell(cell), code, marks))
 }
 
+// A cell of the caller's number, of a type, with a licence, on marks.
+#[no_mangle]
+pub extern "C" fn mk_insert_licensed(
+    mesh: &mut [u32],
+    cell: u32,
+    code: u32,
+    licence: u32,
+    marks: &[u32],
+) -> u8
+    ensures { λ r. ⌜ Changed (now (mesh .entry)) (Insert cell (licensedBody code licence (now (marks .entry)))) r (now (mesh .exit)) ⌝ }
+{
+    tell_verdict(insert_licensed(mesh, Cell(cell), code, licence, marks))
+}
+
 // A cell taken out.
 #[no_mangle]
 pub extern "C" fn mk_remove(mesh: &mut [u32], cell: u32) -> u8
@@ -172,6 +189,14 @@ pub extern "C" fn mk_type(mesh: &[u32], cell: u32, code: &mut u32) -> u8
     ensures { λ r. ⌜ Answered (now (mesh .entry)) (λ m. typeAnswer m cell) (now (code .entry)) r (now (code .exit)) ⌝ }
 {
     tell_value(type_of(mesh, Cell(cell)), code)
+}
+
+// The licence of a cell; 0 if it was inserted without one.
+#[no_mangle]
+pub extern "C" fn mk_licence(mesh: &[u32], cell: u32, licence: &mut u32) -> u8
+    ensures { λ r. ⌜ Answered (now (mesh .entry)) (λ m. licenceAnswer m cell) (now (licence .entry)) r (now (licence .exit)) ⌝ }
+{
+    tell_value(ask::licence(mesh, Cell(cell)), licence)
 }
 
 // Where in memory the marks of a cell stand, and how many there are.
@@ -348,7 +373,7 @@ pub extern "C" fn mk_live(mesh: &[u32], out: &mut [u32], count: &mut u32) -> u8
 pub extern "C" fn mk_version() -> u32
     ensures { λ r. ⌜ r ≡ version ⌝ }
 {
-    0x040400
+    0x050000
 }
 
 // The corners of a cell as points, three floats each.
@@ -436,7 +461,7 @@ pub extern "C" fn mk_journal_begin(mesh: &[u32], journal: &mut [u32], start: &mu
     tell_verdict(begin(mesh, journal, start))
 }
 
-// A cell inserted on a day, and entered.
+// A cell with a licence inserted on a day, and entered.
 #[no_mangle]
 pub extern "C" fn mk_journal_insert(
     mesh: &mut [u32],
@@ -444,11 +469,12 @@ pub extern "C" fn mk_journal_insert(
     day: u32,
     cell: u32,
     code: u32,
+    licence: u32,
     marks: &[u32],
 ) -> u8
-    ensures { λ r. ⌜ ByNumber (λ v. Entered (now (mesh .entry)) (now (journal .entry)) (dated day (Insert cell (bodyOf code (now (marks .entry))))) v (now (mesh .exit)) (now (journal .exit))) r ⌝ }
+    ensures { λ r. ⌜ ByNumber (λ v. Entered (now (mesh .entry)) (now (journal .entry)) (dated day (Insert cell (licensedBody code licence (now (marks .entry))))) v (now (mesh .exit)) (now (journal .exit))) r ⌝ }
 {
-    tell_verdict(enter_insert(mesh, journal, day, Cell(cell), code, marks))
+    tell_verdict(enter_insert(mesh, journal, day, Cell(cell), code, licence, marks))
 }
 
 // A cell removed on a day, and entered.
@@ -470,6 +496,25 @@ pub extern "C" fn mk_journal_on(journal: &[u32], start: &[u32], day: u32, second
     ensures { λ r. ⌜ ByNumber (λ v. OnDay (now (journal .entry)) (now (start .entry)) day (now (second .entry)) v (now (second .exit))) r ⌝ }
 {
     tell_verdict(map_on(journal, start, day, second))
+}
+
+// The licences of the cells around a mark on a day, and that day's mesh.
+#[no_mangle]
+pub extern "C" fn mk_licences(
+    journal: &[u32],
+    start: &[u32],
+    day: u32,
+    mark: u32,
+    second: &mut [u32],
+    out: &mut [u32],
+    count: &mut u32,
+) -> u8
+    ensures { λ r. ⌜ ByCount (λ v. Named (now (journal .entry)) (now (start .entry)) day mark (now (second .entry)) (now (out .entry)) v (now (second .exit)) (now (out .exit))) (now (count .entry)) r (now (count .exit)) ⌝ }
+{
+    tell_value(
+        licences(journal, start, day, Mark(mark), second, out),
+        count,
+    )
 }
 
 // The edits up to a day, moved into the starting map.

@@ -47,9 +47,9 @@ texts =
 
 unfoldable pub answers : List (Read Surface)
 answers =
-    (Got (surface (4 ∷ 2 ∷ []) (pos 0 ∷ pos 0 ∷ pos 0 ∷ pos 1 ∷ pos 0 ∷ pos 0 ∷ negsuc 32767 ∷ pos 32767 ∷ pos 0 ∷ pos 7 ∷ pos 1 ∷ pos 5 ∷ []) (0 ∷ 2 ∷ 0 ∷ 1 ∷ 2 ∷ 1 ∷ 3 ∷ 0 ∷ 1 ∷ 2 ∷ 3 ∷ [])) [])
+    (Got (surface (4 ∷ 2 ∷ []) (pos 0 ∷ pos 0 ∷ pos 0 ∷ pos 1 ∷ pos 0 ∷ pos 0 ∷ negsuc 32767 ∷ pos 32767 ∷ pos 0 ∷ pos 7 ∷ pos 1 ∷ pos 5 ∷ []) (0 ∷ 2 ∷ 0 ∷ 0 ∷ 1 ∷ 2 ∷ 1 ∷ 3 ∷ 0 ∷ 0 ∷ 1 ∷ 2 ∷ 3 ∷ [])) [])
     ∷ (Got (surface (0 ∷ 0 ∷ []) [] []) [])
-    ∷ (Got (surface (0 ∷ 1 ∷ []) [] (0 ∷ 2 ∷ 0 ∷ 1 ∷ 999999 ∷ [])) [])
+    ∷ (Got (surface (0 ∷ 1 ∷ []) [] (0 ∷ 2 ∷ 0 ∷ 0 ∷ 1 ∷ 999999 ∷ [])) [])
     ∷ Stop 2
     ∷ Stop 1
     ∷ Stop 0

@@ -94,12 +94,12 @@ size-read n l h = rw (number-read n (omega arith), size (decLt n 4))
     size (no f) = or-right (eqb n 3) (eqb n 4) (eq-eqb n 4 (omega arith))
 
 face-step : (end c n : ℕ) (x : List ℕ) (ws us vs : List Word) → one sizeOf end ws ≡ Got n us → many numberOf end n us ≡ Got x vs
-    → face end c ws ≡ Got (c ∷ faceCode n ∷ x) vs
+    → face end c ws ≡ Got (c ∷ faceCode n ∷ 0 ∷ x) vs
 unfolding face _then_
 face-step end c n x ws us vs e f = rw (e, f)
 
 read-face : (end c : ℕ) (x : List ℕ) → Face x → (rest : List (List ℕ)) (ws : List Word) → spelled ws ≡ digitsOf (length x) ∷ (map digitsOf x ++ rest)
-    → (vs : List Word) × (face end c ws ≡ Got (c ∷ faceCode (length x) ∷ x) vs) × (spelled vs ≡ rest)
+    → (vs : List Word) × (face end c ws ≡ Got (c ∷ faceCode (length x) ∷ 0 ∷ x) vs) × (spelled vs ≡ rest)
 read-face end c x f rest ws s =
     let first = read-one sizeOf end (length x) (digitsOf (length x)) (map digitsOf x ++ rest) ws (size-read (length x) (f .least) (f .most)) s in
     let others = read-many numberOf digitsOf end x (each-of number-read x (f .marks)) rest (first .0) (first .2) in
@@ -121,7 +121,7 @@ read-faces end c [] none ws s = (ws, faces-none end c ws, s)
 read-faces end c (x ∷ xs) (more p ps) ws s =
     let first = read-face end c x p (faceWords xs) ws s in
     let others = read-faces end (suc c) xs ps (first .0) (first .2) in
-    (others .0, faces-step end (length xs) c (c ∷ faceCode (length x) ∷ x) (recordsFrom (suc c) xs) ws (first .0) (others .0) (first .1) (others .1), others .2)
+    (others .0, faces-step end (length xs) c (c ∷ faceCode (length x) ∷ 0 ∷ x) (recordsFrom (suc c) xs) ws (first .0) (others .0) (first .1) (others .1), others .2)
 
 ended-none : (s : Surface) (ws : List Word) → spelled ws ≡ [] → ended s ws ≡ Got s []
 unfolding ended spelled

@@ -31,9 +31,10 @@ many f end (suc n) ws = one f end ws then λ a ws. many f end n ws then λ rest 
 unfoldable pub faceCode : ℕ → ℕ
 faceCode size = size - 1
 
--- a face is a build record: "a cell number, a type code, then that type's marks"
+-- a face is a build record: "a cell number, a type code, then that type's marks", with the licence after the type; none "for a face read from
+-- OFF, means 0"
 unfoldable pub face : ℕ → ℕ → List Word → Read (List ℕ)
-face end c ws = one sizeOf end ws then λ size ws. many numberOf end size ws then λ marks ws. Got (c ∷ faceCode size ∷ marks) ws
+face end c ws = one sizeOf end ws then λ size ws. many numberOf end size ws then λ marks ws. Got (c ∷ faceCode size ∷ 0 ∷ marks) ws
 
 -- "faces cells 0, 1, 2 in file order": n faces, the first of them cell c
 unfoldable pub faces : ℕ → ℕ → ℕ → List Word → Read (List ℕ)

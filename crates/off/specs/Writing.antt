@@ -56,7 +56,7 @@ unfoldable pub textOf : ℕ → List ℤ → List (List ℕ) → List ℕ
 textOf marks positions faces =
     line title [] ++ (countsLine marks (length faces) ++ (vertexLines marks positions ++ faceLines faces))
 
--- the build records of faces, the first of them cell c
+-- the build records of faces, the first of them cell c, each with licence 0
 unfoldable pub recordsFrom : ℕ → List (List ℕ) → List ℕ
 recordsFrom c [] = []
-recordsFrom c (x ∷ xs) = (c ∷ faceCode (length x) ∷ x) ++ recordsFrom (suc c) xs
+recordsFrom c (x ∷ xs) = (c ∷ faceCode (length x) ∷ 0 ∷ x) ++ recordsFrom (suc c) xs

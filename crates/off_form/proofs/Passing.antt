@@ -99,7 +99,7 @@ module _ (text : List ℕ) (at c : ℕ) where
   pub face-goes : (size g : ℕ) → one sizeOf (length text) (left text at) ≡ Got size (left text g)
       → went (many numberOf (length text) size (left text g)) ≡ went (face (length text) c (left text at))
   unfolding face _then_
-  face-goes size g e = rw e (sym (went-then (λ marks. c ∷ faceCode size ∷ marks) (many numberOf (length text) size (left text g))))
+  face-goes size g e = rw e (sym (went-then (λ marks. c ∷ faceCode size ∷ 0 ∷ marks) (many numberOf (length text) size (left text g))))
 
 -- faces one after another: the first has the number c
 faces-on : (end k c : ℕ) (x : List ℕ) (ws us : List Word) → face end c ws ≡ Got x us → went (faces end (suc k) c ws) ≡ went (faces end k (suc c) us)

@@ -4,7 +4,7 @@ use mathlib.Core.Bool.{Bool}
 use mathlib.Core.List.{List}
 use Prim.Native.Nat.{ℕ, _+_, _*_, _/_, _%_}
 use Rattle.numbers.specs.declared.Caps.{Caps}
-use Rattle.store.specs.Fields.{Magic, MarkCap, CellCap, Edition, Count, HeadRest, First, Held, Anchor, MarkRest, Code, Near, Sib, Link, Far, CellRest}
+use Rattle.store.specs.Fields.{Magic, MarkCap, CellCap, Edition, Count, HeadRest, First, Held, Anchor, MarkRest, Code, Licence, Near, Sib, Link, Far, CellRest}
 use Rattle.store.specs.Slots.{Slot, InHead, InMark, InCell, Within}
 use Rattle.map.specs.declared.Way.{Way}
 use Rattle.map.specs.Cells.{Body}
@@ -43,6 +43,7 @@ module _ (caps : Caps) (s : State) (sib : ℕ → ℕ) (way : ℕ → Way) (anc 
   word-retold (InMark v (Anchor d)) sibs ancs counts = ancs d v refl
   word-retold (InMark v (MarkRest k)) sibs ancs counts = refl
   word-retold (InCell c Code) sibs ancs counts = refl
+  word-retold (InCell c Licence) sibs ancs counts = refl
   word-retold (InCell c (Near k)) sibs ancs counts = refl
   word-retold (InCell c (Sib f)) sibs ancs counts = sibs c f refl
   word-retold (InCell c (Link k)) sibs ancs counts = refl

@@ -17,10 +17,10 @@ use Rattle.words.specs.Words.{Only}
 use Rattle.words.proofs.Frame.{only-then, only-none}
 use Rattle.numbers.specs.declared.Caps.{Caps}
 use Rattle.store.specs.Layout.{nearMarks, room}
-use Rattle.store.specs.Fields.{InNear, CellField, Code, Near, Sib, Link, Far, CellRest, MarkField, First, Held, Anchor, MarkRest}
+use Rattle.store.specs.Fields.{InNear, CellField, Code, Licence, Near, Sib, Link, Far, CellRest, MarkField, First, Held, Anchor, MarkRest}
 use Rattle.store.specs.Slots.{Slot, InHead, InMark, InCell, Within, cellOpen, read, written}
 use Rattle.store.proofs.Writes.{write-only}
-use Rattle.map.specs.Cells.{Body, bodyOf}
+use Rattle.map.specs.Cells.{Body, licensedBody}
 use Rattle.picture.specs.State.{State, next}
 use Rattle.picture.specs.Picture.{chainOf, ahead, linkTo, link, corner, linkWord, headWord, markWord, cellWord, wordOf, Pic}
 use Rattle.picture.specs.Changes.{withBody}
@@ -74,6 +74,7 @@ module _ (caps : Caps) (s : State) (c : ℕ) (loose : (v : ℕ) → s .chain v c
   cell-other : (e : ℕ) (f : CellField) → (e ≡ c → ⊥) → cellWord caps (withBody s c b) e f ≡ cellWord caps s e f
   unfolding cellWord corner linkWord withBody
   cell-other e Code ne = ap (λ (y : Body). y .code) (body-other s c b e ne)
+  cell-other e Licence ne = ap (λ (y : Body). y .licence) (body-other s c b e ne)
   cell-other e (Near k) ne = ap (λ (y : Body). getD (y .marks) k 0) (body-other s c b e ne)
   cell-other e (Sib f) ne = refl
   cell-other e (Link k) ne =
@@ -97,6 +98,7 @@ codeNumber (Sib f) = 2
 codeNumber (Link k) = 3
 codeNumber (Far k) = 4
 codeNumber (CellRest p) = 5
+codeNumber Licence = 6
 
 cellOf : Slot → ℕ
 cellOf (InHead f) = 0
@@ -106,15 +108,16 @@ cellOf (InCell d f) = suc d
 -- the fields that a body is written to; the second part where it holds marks
 Written : Bool → CellField → Type 0
 Written far Code = true ≡ true
+Written far Licence = true ≡ true
 Written far (Near k) = true ≡ true
 Written far (Sib f) = true ≡ false
 Written far (Link k) = true ≡ false
 Written far (Far k) = far ≡ true
 Written far (CellRest p) = true ≡ false
 
-module _ (caps : Caps) (s : State) (c t : ℕ) (marks : List ℕ) (far : Bool) (may : MayWrite caps c marks far s) where
+module _ (caps : Caps) (s : State) (c t licence : ℕ) (marks : List ℕ) (far : Bool) (may : MayWrite caps c marks far s) where
   after : State
-  after = withBody s c (bodyOf t marks)
+  after = withBody s c (licensedBody t licence marks)
 
   short : (l : List ℕ) (k : ℕ) → length l ≤ nearMarks → cond (ltb nearMarks (length l)) (getD l k 0) 0 ≡ 0
   short l k h = rw (le-ltb nearMarks (length l) h)
@@ -123,50 +126,60 @@ module _ (caps : Caps) (s : State) (c t : ℕ) (marks : List ℕ) (far : Bool) (
   own-same : (f : CellField) → (Written far f → ⊥) → cellWord caps after c f ≡ cellWord caps s c f
   unfolding after Written cellWord corner withBody
   own-same Code n = absurd (n refl)
+  own-same Licence n = absurd (n refl)
   own-same (Near k) n = absurd (n refl)
   own-same (Sib f) n = refl
-  own-same (Link k) n = link-none caps after c (may .loose) (bodyOf t marks) k ∙ sym (link-none caps s c (may .loose) (bodyOf t marks) k)
+  own-same (Link k) n = link-none caps after c (may .loose) (licensedBody t licence marks) k ∙ sym (link-none caps s c (may .loose) (licensedBody t licence marks) k)
   own-same (Far k) n =
       let small = may .near (not-true-false far n) in
-      ap (λ (y : Body). cond (ltb nearMarks (length (y .marks))) (getD (y .marks) k 0) 0) (body-here s c (bodyOf t marks))
+      ap (λ (y : Body). cond (ltb nearMarks (length (y .marks))) (getD (y .marks) k 0) 0) (body-here s c (licensedBody t licence marks))
       ∙ (short marks k (small .1) ∙ sym (short (s .at c .marks) k (small .0)))
   own-same (CellRest p) n = refl
 
   -- what stands in the fields that are written
   own-code : cellWord caps after c Code ≡ t
   unfolding after cellWord
-  own-code = ap (λ (y : Body). y .code) (body-here s c (bodyOf t marks))
+  own-code = ap (λ (y : Body). y .code) (body-here s c (licensedBody t licence marks))
+
+  own-licence : cellWord caps after c Licence ≡ licence
+  unfolding after cellWord
+  own-licence = ap (λ (y : Body). y .licence) (body-here s c (licensedBody t licence marks))
 
   own-near : (k : ℕ) → cellWord caps after c (Near k) ≡ getD marks k 0
   unfolding after cellWord corner
-  own-near k = ap (λ (y : Body). getD (y .marks) k 0) (body-here s c (bodyOf t marks))
+  own-near k = ap (λ (y : Body). getD (y .marks) k 0) (body-here s c (licensedBody t licence marks))
 
   own-far : far ≡ true → (k : ℕ) → cellWord caps after c (Far k) ≡ getD marks k 0
   unfolding after cellWord corner
   own-far e k =
-      ap (λ (y : Body). cond (ltb nearMarks (length (y .marks))) (getD (y .marks) k 0) 0) (body-here s c (bodyOf t marks))
+      ap (λ (y : Body). cond (ltb nearMarks (length (y .marks))) (getD (y .marks) k 0) 0) (body-here s c (licensedBody t licence marks))
       ∙ ⊎-elim (λ (h : nearMarks < length marks). rw (lt-ltb nearMarks (length marks) h)) (λ (z : marks ≡ []). none z) (may .all e)
     where
       none : marks ≡ [] → cond (ltb nearMarks (length marks)) (getD marks k 0) 0 ≡ getD marks k 0
       none z = rw z refl
 
-  -- the writes of the code: the first four marks, all marks where the second part holds any, the type
+  -- the writes of the code: the first four marks, all marks where the second part holds any, the licence, the type
   module _
-      (w w₁ w₂ w₃ : List ℕ) (p : Pic w caps s) (near : Fills Near caps c marks w nearMarks w₁) (two : Fars far caps c marks w₁ w₂)
-      (e : w₃ ≡ written w₂ caps (InCell c Code) t)
+      (w w₁ w₂ w₃ w₄ : List ℕ) (p : Pic w caps s) (near : Fills Near caps c marks w nearMarks w₁) (two : Fars far caps c marks w₁ w₂)
+      (l : w₃ ≡ written w₂ caps (InCell c Licence) licence) (e : w₄ ≡ written w₃ caps (InCell c Code) t)
     where
       size : room (caps .marks) (caps .cells) ≤ length w₂
       size = omega (arith, p .fits, near .inside .size, two .inside .size)
 
+      size-licensed : room (caps .marks) (caps .cells) ≤ length w₃
+      size-licensed = rw l (omega (arith, size, write-only w₂ caps licence (InCell c Licence) .size))
+
       -- a slot that is not written
       untouched : (z : Slot) → Within (caps .marks) (caps .cells) z → ((f : CellField) → z ≡ InCell c f → Written far f → ⊥)
-          → wordOf caps after z ≡ wordOf caps s z → read w₃ caps z ≡ wordOf caps after z
+          → wordOf caps after z ≡ wordOf caps s z → read w₄ caps z ≡ wordOf caps after z
       unfolding cellOpen Written
       untouched z i ne same =
           ap (λ (m : List ℕ). read m caps z) e
-          ∙ (written-other w₂ caps c Code t refl z i (omega arith) (λ q. ne Code q refl)
+          ∙ (written-other w₃ caps c Code t refl z i (omega arith) (λ q. ne Code q refl)
+          ∙ (ap (λ (m : List ℕ). read m caps z) l
+          ∙ (written-other w₂ caps c Licence licence refl z i (omega arith) (λ q. ne Licence q refl)
           ∙ (two .kept z i (λ far-yes k h q. ne (Far k) q far-yes)
-          ∙ (near .kept z i (λ k h q. ne (Near k) q refl) ∙ (p .words z i ∙ sym same))))
+          ∙ (near .kept z i (λ k h q. ne (Near k) q refl) ∙ (p .words z i ∙ sym same))))))
 
       -- a field of the cell itself
       fieldOf : Slot → CellField
@@ -174,62 +187,73 @@ module _ (caps : Caps) (s : State) (c t : ℕ) (marks : List ℕ) (far : Bool) (
       fieldOf (InMark v f) = CellRest (InNear 0)
       fieldOf (InCell d f) = f
 
-      rest : (f : CellField) → Within (caps .marks) (caps .cells) (InCell c f) → (Written far f → ⊥) → read w₃ caps (InCell c f) ≡ wordOf caps after (InCell c f)
+      rest : (f : CellField) → Within (caps .marks) (caps .cells) (InCell c f) → (Written far f → ⊥) → read w₄ caps (InCell c f) ≡ wordOf caps after (InCell c f)
       unfolding wordOf fieldOf
       rest f i n = untouched (InCell c f) i (λ g q y. n (subst (Written far) (sym (ap fieldOf q)) y)) (own-same f n)
 
       -- a written field that no later write touches
-      still : (f : CellField) → Within (caps .marks) (caps .cells) (InCell c f) → (f ≡ Code → ⊥) → read w₃ caps (InCell c f) ≡ read w₂ caps (InCell c f)
+      licensed : (f : CellField) → Within (caps .marks) (caps .cells) (InCell c f) → (f ≡ Code → ⊥) → read w₄ caps (InCell c f) ≡ read w₃ caps (InCell c f)
       unfolding cellOpen fieldOf
-      still f i n = ap (λ (m : List ℕ). read m caps (InCell c f)) e ∙ written-other w₂ caps c Code t refl (InCell c f) i (omega arith) (λ q. n (ap fieldOf q))
+      licensed f i n = ap (λ (m : List ℕ). read m caps (InCell c f)) e ∙ written-other w₃ caps c Code t refl (InCell c f) i (omega arith) (λ q. n (ap fieldOf q))
 
-      own : (f : CellField) → Within (caps .marks) (caps .cells) (InCell c f) → read w₃ caps (InCell c f) ≡ wordOf caps after (InCell c f)
+      still : (f : CellField) → Within (caps .marks) (caps .cells) (InCell c f) → (f ≡ Code → ⊥) → (f ≡ Licence → ⊥)
+          → read w₄ caps (InCell c f) ≡ read w₂ caps (InCell c f)
+      unfolding cellOpen fieldOf
+      still f i n o =
+          licensed f i n
+          ∙ (ap (λ (m : List ℕ). read m caps (InCell c f)) l ∙ written-other w₂ caps c Licence licence refl (InCell c f) i (omega arith) (λ q. o (ap fieldOf q)))
+
+      own : (f : CellField) → Within (caps .marks) (caps .cells) (InCell c f) → read w₄ caps (InCell c f) ≡ wordOf caps after (InCell c f)
       unfolding wordOf cellOpen Written fieldOf codeNumber
       own Code i =
-          ap (λ (m : List ℕ). read m caps (InCell c Code)) e ∙ (written-here w₂ caps c Code t refl (i .0) (omega arith) size ∙ sym own-code)
+          ap (λ (m : List ℕ). read m caps (InCell c Code)) e ∙ (written-here w₃ caps c Code t refl (i .0) (omega arith) size-licensed ∙ sym own-code)
+      own Licence i =
+          licensed Licence i (λ q. absurd (omega (arith, ap codeNumber q)))
+          ∙ (ap (λ (m : List ℕ). read m caps (InCell c Licence)) l ∙ (written-here w₂ caps c Licence licence refl (i .0) (omega arith) size ∙ sym own-licence))
       own (Near k) i =
-          still (Near k) i (λ q. absurd (omega (arith, ap codeNumber q)))
+          still (Near k) i (λ q. absurd (omega (arith, ap codeNumber q))) (λ q. absurd (omega (arith, ap codeNumber q)))
           ∙ (two .kept (InCell c (Near k)) i (λ y j h q. absurd (omega (arith, ap codeNumber (ap fieldOf q))))
           ∙ (near .wrote (i .0) (p .fits) k (i .1) ∙ sym (own-near k)))
       own (Sib f) i = rest (Sib f) i (λ y. clash refl y)
       own (Link k) i = rest (Link k) i (λ y. clash refl y)
       own (Far k) i = go far refl
         where
-          go : (b : Bool) → far ≡ b → read w₃ caps (InCell c (Far k)) ≡ cellWord caps after c (Far k)
+          go : (b : Bool) → far ≡ b → read w₄ caps (InCell c (Far k)) ≡ cellWord caps after c (Far k)
           go true y =
-              still (Far k) i (λ q. absurd (omega (arith, ap codeNumber q)))
+              still (Far k) i (λ q. absurd (omega (arith, ap codeNumber q))) (λ q. absurd (omega (arith, ap codeNumber q)))
               ∙ (two .wrote y (i .0) (omega (arith, p .fits, near .inside .size)) k (i .1) ∙ sym (own-far y k))
           go false n = rest (Far k) i (λ y. clash y n)
       own (CellRest q) i = rest (CellRest q) i (λ y. clash refl y)
 
-      body-pic : Pic w₃ caps after
+      body-pic : Pic w₄ caps after
       unfolding cellOf wordOf after withBody
       body-pic = record {
         marks = p .marks;
         cells = p .cells;
         edition = p .edition;
-        fits = rw e (omega (arith, size, write-only w₂ caps t (InCell c Code) .size));
+        fits = rw e (omega (arith, size-licensed, write-only w₃ caps t (InCell c Code) .size));
         words = at;
       }
         where
           cell : (d : ℕ) (f : CellField) → Within (caps .marks) (caps .cells) (InCell d f) → Dec (d ≡ c)
-              → read w₃ caps (InCell d f) ≡ wordOf caps after (InCell d f)
+              → read w₄ caps (InCell d f) ≡ wordOf caps after (InCell d f)
           cell d f i (yes q) = rw q (own f (subst (λ (k : ℕ). Within (caps .marks) (caps .cells) (InCell k f)) q i))
           cell d f i (no n) =
-              untouched (InCell d f) i (λ g q y. n (omega (arith, ap cellOf q))) (cell-other caps s c (may .loose) (bodyOf t marks) d f n)
+              untouched (InCell d f) i (λ g q y. n (omega (arith, ap cellOf q))) (cell-other caps s c (may .loose) (licensedBody t licence marks) d f n)
 
-          at : (z : Slot) → Within (caps .marks) (caps .cells) z → read w₃ caps z ≡ wordOf caps after z
+          at : (z : Slot) → Within (caps .marks) (caps .cells) z → read w₄ caps z ≡ wordOf caps after z
           at (InHead f) i = untouched (InHead f) i (λ g q y. absurd (omega (arith, ap cellOf q))) refl
           at (InMark v f) i =
-              untouched (InMark v f) i (λ g q y. absurd (omega (arith, ap cellOf q))) (mark-same caps s c (may .loose) (bodyOf t marks) v f)
+              untouched (InMark v f) i (λ g q y. absurd (omega (arith, ap cellOf q))) (mark-same caps s c (may .loose) (licensedBody t licence marks) v f)
           at (InCell d f) i = cell d f i (ℕ-discrete d c)
 
-pub body-step : (caps : Caps) (c t : ℕ) (marks : List ℕ) (far : Bool) (w w₁ w₂ w₃ : List ℕ) → Fills Near caps c marks w nearMarks w₁ → Fars far caps c marks w₁ w₂
-    → w₃ ≡ written w₂ caps (InCell c Code) t → Step caps w w₃ (MayWrite caps c marks far) (λ s. withBody s c (bodyOf t marks))
+pub body-step : (caps : Caps) (c t licence : ℕ) (marks : List ℕ) (far : Bool) (w w₁ w₂ w₃ w₄ : List ℕ) → Fills Near caps c marks w nearMarks w₁ → Fars far caps c marks w₁ w₂
+    → w₃ ≡ written w₂ caps (InCell c Licence) licence → w₄ ≡ written w₃ caps (InCell c Code) t → Step caps w w₄ (MayWrite caps c marks far) (λ s. withBody s c (licensedBody t licence marks))
 unfolding after
-body-step caps c t marks far w w₁ w₂ w₃ near two e = record {
-  inside = only-then (near .inside) (only-then (two .inside) (rw e (write-only w₂ caps t (InCell c Code))));
-  state = λ s p may. body-pic caps s c t marks far may w w₁ w₂ w₃ p near two e;
+body-step caps c t licence marks far w w₁ w₂ w₃ w₄ near two l e = record {
+  inside = only-then (near .inside)
+      (only-then (two .inside) (only-then {m′ = w₃} (rw l (write-only w₂ caps licence (InCell c Licence))) (rw e (write-only w₃ caps t (InCell c Code)))));
+  state = λ s p may. body-pic caps s c t licence marks far may w w₁ w₂ w₃ w₄ p near two l e;
 }
 
 -- the second part, as the code goes

@@ -13,7 +13,7 @@ use Rattle.words.specs.Words.{Only}
 use Rattle.words.proofs.Frame.{read-same, read-other, only-none, only-then}
 use Rattle.numbers.specs.declared.Caps.{Caps}
 use Rattle.store.specs.Layout.{nearMarks, room}
-use Rattle.store.specs.Fields.{CellField, Code, Near, Sib, Link, Far, CellRest, CellFits}
+use Rattle.store.specs.Fields.{CellField, Code, Licence, Near, Sib, Link, Far, CellRest, CellFits}
 use Rattle.store.specs.Slots.{Slot, InHead, InMark, InCell, address, Within, cellOpen, writable, read, written}
 use Rattle.store.proofs.Slots.{slot-below, slot-one}
 use Rattle.store.proofs.Writes.{open-within, cell-inside, cell-outside, write-only}
@@ -75,6 +75,7 @@ module _ (field : ℕ → CellField) (caps : Caps) (c : ℕ) (words w : List ℕ
 
 numberOf : CellField → ℕ
 numberOf Code = 0
+numberOf Licence = 0
 numberOf (Near k) = k
 numberOf (Sib f) = 0
 numberOf (Link k) = 0

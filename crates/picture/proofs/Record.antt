@@ -12,8 +12,8 @@ use Rattle.words.specs.Words.{partOf}
 use Rattle.words.proofs.Fits.{part-is}
 use Rattle.numbers.specs.declared.Caps.{Caps}
 use Rattle.store.specs.Layout.{nearMarks}
-use Rattle.store.specs.Fields.{Magic, MarkCap, CellCap, Count, Anchor, Code, Near, Sib, Far, cellPlace, headPlace}
-use Rattle.store.specs.Slots.{InHead, InMark, InCell, placeAt, address, read, codeIn, cornerIn, marksAt, siblingIn, wayIn}
+use Rattle.store.specs.Fields.{Magic, MarkCap, CellCap, Count, Anchor, Code, Licence, Near, Sib, Far, cellPlace, headPlace}
+use Rattle.store.specs.Slots.{InHead, InMark, InCell, placeAt, address, read, codeIn, licenceIn, cornerIn, marksAt, siblingIn, wayIn}
 use Rattle.map.specs.Ways.{wayAt}
 use Rattle.store.proofs.Ways.{packed-sibling, packed-way}
 use Rattle.store.specs.Open.{headIn, capsIn, isMesh}
@@ -54,6 +54,10 @@ module _ (w : List ℕ) (caps : Caps) (s : State) (p : Pic w caps s) where
     pub code-read : codeIn w caps c ≡ s .at c .code
     unfolding wordOf cellWord
     code-read = p .words (InCell c Code) (h, omega arith)
+
+    pub licence-read : licenceIn w caps c ≡ s .at c .licence
+    unfolding wordOf cellWord
+    licence-read = p .words (InCell c Licence) (h, omega arith)
 
     pub corner-read : (k : ℕ) → k < mostMarks → cornerIn w caps c k ≡ getD (s .at c .marks) k 0
     unfolding wordOf cellWord corner

@@ -10,7 +10,7 @@ use Rattle.numbers.specs.declared.Caps.{Caps}
 use Rattle.numbers.specs.Sizes.{mostCapacity}
 use Rattle.numbers.specs.Editions.{isEdition}
 use Rattle.store.specs.Layout.{nearMarks, magic, room}
-use Rattle.store.specs.Fields.{HeadField, Magic, MarkCap, CellCap, Edition, Count, HeadRest, MarkField, First, Held, Anchor, MarkRest, CellField, Code, Near, Sib, Link, Far, CellRest}
+use Rattle.store.specs.Fields.{HeadField, Magic, MarkCap, CellCap, Edition, Count, HeadRest, MarkField, First, Held, Anchor, MarkRest, CellField, Code, Licence, Near, Sib, Link, Far, CellRest}
 use Rattle.store.specs.Slots.{Slot, InHead, InMark, InCell, Within, read}
 use Rattle.map.specs.Cells.{Body, Map}
 use Rattle.map.specs.Ways.{wayNumber}
@@ -63,6 +63,7 @@ sibWord s h = 4 * s .sib h + wayNumber (s .way h)
 -- all marks stand in the second part where there are more than four
 unfoldable pub cellWord : Caps → State → ℕ → CellField → ℕ
 cellWord caps s c Code = s .at c .code
+cellWord caps s c Licence = s .at c .licence
 cellWord caps s c (Near k) = corner s c k
 cellWord caps s c (Sib f) = sibWord s (8 * c + f)
 cellWord caps s c (Link k) = linkWord caps s c k

@@ -1,12 +1,12 @@
 // The picture: what each word of mesh memory is, by the capacities and the state; and the writers of single words.
 //
 // What is here: in specs/ the state (State), every word of the room by it (Picture), well-formed memory (Wf) and the steps of an edit
-// (Changes, Step); in src/ the writers of a first anchor, a live count, a sibling and a cell's type and marks. All are total on any
+// (Changes, Step); in src/ the writers of a first anchor, a live count, a sibling and a cell's type, licence and marks. All are total on any
 // memory. What is proved: each writer leaves the picture of the state changed in that one place, and nothing beyond the room; two
 // well-formed memories of one map are equal word for word (proofs/Put.antt). What a caller should know: specs/Writes.antt says what is
 // asked.
 ghost use Prim.Native.Nat.{_/_, _%_, _<_, _≤_};
-ghost use Rattle.map.specs.Cells.{bodyOf};
+ghost use Rattle.map.specs.Cells.{licensedBody};
 ghost use Rattle.store.specs.Fields.{Near};
 ghost use Rattle.picture.specs.Changes.{withBody, withSib, withAnc, withCount};
 ghost use Rattle.picture.specs.Step.{Step};
@@ -24,6 +24,7 @@ use store::write_anchor;
 use store::write_code;
 use store::write_count;
 use store::write_far;
+use store::write_licence;
 use store::write_near;
 use store::write_sibling;
 use words::word;
@@ -74,11 +75,12 @@ fn put_far(w: &mut [u32], caps: Caps, c: Cell, marks: &[u32], far: bool)
     }
 }
 
-// The type and the marks of a cell that stands in no chain; `far` says whether the second part holds marks, before or then.
-pub fn put_body(w: &mut [u32], caps: Caps, c: Cell, t: u32, marks: &[u32], far: bool)
-    ensures { λ _. ⌜ Step caps (now (w .entry)) (now (w .exit)) (MayWrite caps (c .0) (now (marks .entry)) far) (λ s. withBody s (c .0) (bodyOf t (now (marks .entry)))) ⌝ }
+// The type, the licence and the marks of a cell that stands in no chain; `far` says whether the second part holds marks, before or then.
+pub fn put_body(w: &mut [u32], caps: Caps, c: Cell, t: u32, licence: u32, marks: &[u32], far: bool)
+    ensures { λ _. ⌜ Step caps (now (w .entry)) (now (w .exit)) (MayWrite caps (c .0) (now (marks .entry)) far) (λ s. withBody s (c .0) (licensedBody t licence (now (marks .entry)))) ⌝ }
 {
     put_near(w, caps, c, marks);
     put_far(w, caps, c, marks, far);
+    write_licence(w, caps, c, licence);
     write_code(w, caps, c, t);
 }

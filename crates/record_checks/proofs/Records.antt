@@ -1,5 +1,5 @@
 -- What the records of memory that is laid out are.
-use mathlib.Core.Path.{_≡_, sym, _∙_}
+use mathlib.Core.Path.{_≡_, refl, sym, _∙_}
 use mathlib.Core.Bool.{true, false, not, _&&_}
 use mathlib.Core.List.{List}
 use Prim.Native.Nat.{ℕ, _+_, _%_, _<_, _≤_}
@@ -21,13 +21,13 @@ use Rattle.numbers.specs.Editions.{isEdition}
 use Rattle.numbers.specs.Sizes.{mostCapacity}
 use Rattle.store.specs.Layout.{nearMarks, magic, room, nearAt, farAt}
 use Rattle.store.specs.Fields.{Magic, MarkCap, CellCap, Edition, Near, Sib, Link, Far}
-use Rattle.store.specs.Slots.{InCell, read, codeIn, cornerIn, marksAt}
+use Rattle.store.specs.Slots.{InCell, read, codeIn, licenceIn, cornerIn, marksAt}
 use Rattle.store.specs.Open.{headIn}
 use Rattle.store.specs.Rests.{headBlank, markBlank, cellBlank}
 use Rattle.store.proofs.Marks.{corner-near, marks-fit}
 use Rattle.facet.specs.Facet.{marksIn}
-use Rattle.record_checks.specs.Laid.{typed, fine, bare, farMark, cornerRight, facetRight, recordRight, chainRight, meets, markRight, cellRight, laidIn}
-use Rattle.record_checks.proofs.Steps.{bare-behind}
+use Rattle.record_checks.specs.Laid.{typed, fine, bare, farMark, cornerRight, facetRight, restRight, recordRight, chainRight, meets, markRight, cellRight, laidIn}
+use Rattle.record_checks.proofs.Steps.{bare-behind, licence-dead}
 use Rattle.numbers.specs.Half.{cut}
 use Rattle.shapes.specs.Sizes.{mostFacets, mostMarks}
 
@@ -82,21 +82,21 @@ module _ (w : List ℕ) (caps : Caps) (hd : Headed w caps) (laid : laidIn w caps
     typed-passes = and-left (typed (codeIn w caps c)) _ record-passes
 
     behind-type : fine caps (marksIn w caps c)
-        && (every mostMarks (cornerRight w caps c (marksIn w caps c)) && (every mostFacets (facetRight w caps c (facetCount (codeIn w caps c))) && cellBlank w caps c)) ≡ true
+        && (every mostMarks (cornerRight w caps c (marksIn w caps c)) && (every mostFacets (facetRight w caps c (facetCount (codeIn w caps c))) && restRight w caps c)) ≡ true
     unfolding recordRight
     behind-type = and-right (typed (codeIn w caps c)) _ record-passes
 
     fine-passes : fine caps (marksIn w caps c) ≡ true
     fine-passes = and-left (fine caps (marksIn w caps c)) _ behind-type
 
-    behind-marks : every mostMarks (cornerRight w caps c (marksIn w caps c)) && (every mostFacets (facetRight w caps c (facetCount (codeIn w caps c))) && cellBlank w caps c) ≡ true
+    behind-marks : every mostMarks (cornerRight w caps c (marksIn w caps c)) && (every mostFacets (facetRight w caps c (facetCount (codeIn w caps c))) && restRight w caps c) ≡ true
     behind-marks = and-right (fine caps (marksIn w caps c)) _ behind-type
 
     corner-passes : (k : ℕ) → k < mostMarks → cornerRight w caps c (marksIn w caps c) k ≡ true
     corner-passes k less =
         every-at (cornerRight w caps c (marksIn w caps c)) mostMarks (and-left (every mostMarks (cornerRight w caps c (marksIn w caps c))) _ behind-marks) k less
 
-    behind-corners : every mostFacets (facetRight w caps c (facetCount (codeIn w caps c))) && cellBlank w caps c ≡ true
+    behind-corners : every mostFacets (facetRight w caps c (facetCount (codeIn w caps c))) && restRight w caps c ≡ true
     behind-corners = and-right (every mostMarks (cornerRight w caps c (marksIn w caps c))) _ behind-marks
 
     facet-passes : (f : ℕ) → f < mostFacets → facetRight w caps c (facetCount (codeIn w caps c)) f ≡ true
@@ -104,8 +104,18 @@ module _ (w : List ℕ) (caps : Caps) (hd : Headed w caps) (laid : laidIn w caps
         every-at (facetRight w caps c (facetCount (codeIn w caps c))) mostFacets
         (and-left (every mostFacets (facetRight w caps c (facetCount (codeIn w caps c)))) _ behind-corners) f less
 
+    rest-passes : restRight w caps c ≡ true
+    rest-passes = and-right (every mostFacets (facetRight w caps c (facetCount (codeIn w caps c)))) _ behind-corners
+
     pub cell-rests : cellBlank w caps c ≡ true
-    cell-rests = and-right (every mostFacets (facetRight w caps c (facetCount (codeIn w caps c)))) _ behind-corners
+    unfolding restRight
+    cell-rests = and-left (cellBlank w caps c) _ rest-passes
+
+    -- under a number that is not live there is no licence
+    pub licence-none : codeIn w caps c ≡ 0 → licenceIn w caps c ≡ 0
+    unfolding restRight
+    licence-none e =
+        eqb-true (licenceIn w caps c) 0 (licence-dead _ (codeIn w caps c) _ (licenceIn w caps c) refl e refl ∙ and-right (cellBlank w caps c) _ rest-passes)
 
     -- as many marks as the type has, each of the mesh, none twice
     pub marks-length : length (marksIn w caps c) ≡ shape (codeIn w caps c) .marks

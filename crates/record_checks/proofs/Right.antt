@@ -17,19 +17,19 @@ use Rattle.shapes.specs.Shapes.{shape, facetCount}
 use Rattle.shapes.proofs.Facts.{facts}
 use Rattle.numbers.specs.declared.Caps.{Caps}
 use Rattle.store.specs.Fields.{HeadRest, MarkRest, Sib, Link, Far, CellRest}
-use Rattle.store.specs.Slots.{InHead, InMark, InCell, read, codeIn, cornerIn}
-use Rattle.store.specs.Rests.{headBlank, markBlank}
+use Rattle.store.specs.Slots.{InHead, InMark, InCell, read, codeIn, licenceIn, cornerIn}
+use Rattle.store.specs.Rests.{headBlank, markBlank, cellBlank}
 use Rattle.store.proofs.Rests.{rest-head, rest-mark, rest-cell}
-use Rattle.map.specs.Cells.{Map, live, holds, dimensionAt, facetsAt}
+use Rattle.map.specs.Cells.{Body, Map, noCell, live, holds, dimensionAt, facetsAt}
 use Rattle.map.specs.Siblings.{isHalf}
 use Rattle.map.specs.Ways.{wayNumber}
 use Rattle.laws.proofs.Facets.{facets-count}
 use Rattle.picture.specs.State.{State, mapWith, stateOf}
 use Rattle.picture.specs.Picture.{corner, linkWord, headWord, markWord, sibWord, cellWord, wordOf, Pic, Wf}
-use Rattle.picture.proofs.Record.{code-read, corner-read, marks-read}
+use Rattle.picture.proofs.Record.{code-read, licence-read, corner-read, marks-read}
 use Rattle.picture.proofs.Settles.{wf-pic, wf-settled}
 use Rattle.facet.specs.Facet.{marksIn}
-use Rattle.record_checks.specs.Laid.{typed, fine, bare, farMark, cornerRight, facetRight, recordRight, meets, markRight, cellRight, laidIn}
+use Rattle.record_checks.specs.Laid.{typed, fine, bare, farMark, cornerRight, facetRight, licenceRight, restRight, recordRight, meets, markRight, cellRight, laidIn}
 use Rattle.record_checks.specs.Upright.{Upright}
 use Rattle.record_checks.proofs.Steps.{bare-before, bare-behind}
 use Rattle.record_checks.proofs.Chains.{right-chain, right-meets}
@@ -106,6 +106,19 @@ module _ (w : List ℕ) (caps : Caps) (s : State) (p : Pic w caps s) (u : Uprigh
             bare-behind (facetCount (s .at c .code)) f (read w caps (InCell c (Sib f))) (omega arith)
             ∙ eq-eqb (read w caps (InCell c (Sib f))) 0 (p .words (InCell c (Sib f)) (h, less) ∙ sibs c f (omega arith) less)
 
+    right-licence : licenceRight (codeIn w caps c) (licenceIn w caps c) ≡ true
+    unfolding licenceRight live mapWith noCell
+    right-licence = rw (code-read w caps s p c h, licence-read w caps s p c h) (go (eqb (s .at c .code) 0) refl)
+      where
+        go : (b : Bool) → eqb (s .at c .code) 0 ≡ b → not b || eqb (s .at c .licence) 0 ≡ true
+        go true q = eq-eqb (s .at c .licence) 0 (ap (λ (b : Body). b .licence) (u .dead c (ap not q)))
+        go false q = refl
+
+    right-rest : restRight w caps c ≡ true
+    unfolding restRight wordOf cellWord
+    right-rest =
+        and-both (cellBlank w caps c) _ (rest-cell w caps c (λ q fits. p .words (InCell c (CellRest q)) (h, fits))) right-licence
+
     right-record : recordRight w caps c ≡ true
     unfolding recordRight wordOf cellWord
     right-record =
@@ -115,7 +128,7 @@ module _ (w : List ℕ) (caps : Caps) (s : State) (p : Pic w caps s) (u : Uprigh
         (and-both (every mostMarks (cornerRight w caps c (s .at c .marks))) _ (at-every (cornerRight w caps c (s .at c .marks)) mostMarks right-corner)
         (and-both (every mostFacets (facetRight w caps c (facetCount (s .at c .code)))) _
         (at-every (facetRight w caps c (facetCount (s .at c .code))) mostFacets right-facet)
-        (rest-cell w caps c (λ q fits. p .words (InCell c (CellRest q)) (h, fits)))))))
+        right-rest))))
 
     right-cell : cellRight w caps c ≡ true
     unfolding cellRight holds mapWith

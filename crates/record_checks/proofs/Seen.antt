@@ -11,12 +11,12 @@ use lib.ListN.{getD, length}
 use Rattle.lists.specs.Lists.{has, repeats}
 use Rattle.lists.proofs.Members.{at-has}
 use Rattle.numbers.specs.declared.Caps.{Caps}
-use Rattle.store.specs.Fields.{Magic, MarkCap, CellCap, Edition, Count, HeadRest, First, Held, Anchor, MarkRest, Code, Near, Sib, Link, Far, CellRest}
-use Rattle.store.specs.Slots.{Slot, InHead, InMark, InCell, address, Within, read, codeIn, siblingIn, wayIn}
+use Rattle.store.specs.Fields.{Magic, MarkCap, CellCap, Edition, Count, HeadRest, First, Held, Anchor, MarkRest, Code, Licence, Near, Sib, Link, Far, CellRest}
+use Rattle.store.specs.Slots.{Slot, InHead, InMark, InCell, address, Within, read, codeIn, licenceIn, siblingIn, wayIn}
 use Rattle.store.proofs.Ways.{word-packed}
 use Rattle.store.specs.Open.{headIn}
 use Rattle.store.proofs.Rests.{head-rest, mark-rest, cell-rest}
-use Rattle.map.specs.Cells.{Body, bodyOf, noCell}
+use Rattle.map.specs.Cells.{Body, licensedBody, noCell}
 use Rattle.picture.specs.State.{State}
 use Rattle.picture.specs.Picture.{chainOf, link, corner, linkWord, headWord, markWord, sibWord, cellWord, wordOf, Pic}
 use Rattle.chain.proofs.Places.{link-here}
@@ -31,7 +31,7 @@ use Rattle.store.specs.Layout.{nearMarks}
 
 -- the cell that a record gives; none past the capacity
 unfoldable pub bodySeen : List ℕ → Caps → ℕ → Body
-bodySeen w caps c = cond (ltb c (caps .cells)) (bodyOf (codeIn w caps c) (marksIn w caps c)) noCell
+bodySeen w caps c = cond (ltb c (caps .cells)) (licensedBody (codeIn w caps c) (licenceIn w caps c) (marksIn w caps c)) noCell
 
 -- the chain of a mark is that of its holders; siblings and their ways, first anchors and live counts are as they are stored
 unfoldable pub seen : List ℕ → Caps → State
@@ -44,7 +44,7 @@ seen w caps = record {
   count = λ t. read w caps (InHead (Count t));
 }
 
-pub body-here : (w : List ℕ) (caps : Caps) (c : ℕ) → c < caps .cells → bodySeen w caps c ≡ bodyOf (codeIn w caps c) (marksIn w caps c)
+pub body-here : (w : List ℕ) (caps : Caps) (c : ℕ) → c < caps .cells → bodySeen w caps c ≡ licensedBody (codeIn w caps c) (licenceIn w caps c) (marksIn w caps c)
 unfolding bodySeen
 body-here w caps c h = rw (lt-ltb c (caps .cells) h)
 
@@ -95,6 +95,10 @@ module _ (w : List ℕ) (caps : Caps) (hd : Headed w caps) (laid : laidIn w caps
     unfolding seen
     code-seen = sym (ap (λ (b : Body). b .code) (body-here w caps c h))
 
+    licence-seen : read w caps (InCell c Licence) ≡ seen w caps .at c .licence
+    unfolding seen
+    licence-seen = sym (ap (λ (b : Body). b .licence) (body-here w caps c h))
+
     near-seen : (k : ℕ) → k < nearMarks → read w caps (InCell c (Near k)) ≡ corner (seen w caps) c k
     unfolding corner
     near-seen k less = near-word w caps hd laid c h k less ∙ ap (λ (l : List ℕ). getD l k 0) (sym (marks-seen c h))
@@ -140,6 +144,7 @@ module _ (w : List ℕ) (caps : Caps) (hd : Headed w caps) (laid : laidIn w caps
   slot-seen (InMark v (Anchor d)) h = refl
   slot-seen (InMark v (MarkRest k)) h = mark-rest w caps v (mark-rests w caps hd laid v (h .0)) k (h .1)
   slot-seen (InCell c Code) h = code-seen c (h .0)
+  slot-seen (InCell c Licence) h = licence-seen c (h .0)
   slot-seen (InCell c (Near k)) h = near-seen c (h .0) k (h .1)
   slot-seen (InCell c (Sib f)) h = sib-seen c (h .0) f (h .1)
   slot-seen (InCell c (Link k)) h = link-seen c (h .0) k (h .1)

@@ -1,6 +1,6 @@
 -- The steps of the checks: a corner's tests one after another, the facets behind the last, and the walks of a chain.
 use mathlib.Core.Path.{_≡_, refl, sym, ap, _∙_}
-use mathlib.Core.Bool.{Bool, true, false, _&&_, _||_}
+use mathlib.Core.Bool.{Bool, true, false, not, _&&_, _||_}
 use mathlib.Core.List.{List}
 use Prim.Native.Nat.{ℕ, zero, suc, _+_, _-_, _/_, _%_, _<_, _≤_}
 use native.Mathlib.Numerals.{add-one}
@@ -17,7 +17,7 @@ use Rattle.shapes.specs.Sizes.{mostFacets}
 use Rattle.store.specs.Fields.{First, Held, Sib, Link, Far}
 use Rattle.store.specs.Slots.{InMark, InCell, read, cornerIn}
 use Rattle.facet.specs.Facet.{marksIn}
-use Rattle.record_checks.specs.Laid.{bare, farMark, cornerRight, facetRight, linkBehind, stands, goes, meetsFrom, chainRight, meets}
+use Rattle.record_checks.specs.Laid.{bare, farMark, cornerRight, facetRight, licenceRight, linkBehind, stands, goes, meetsFrom, chainRight, meets}
 use Rattle.numbers.specs.Sizes.{mostAround}
 use Rattle.store.specs.Layout.{nearMarks}
 
@@ -29,6 +29,15 @@ bare-before n k x h = rw (lt-ltb k n h)
 pub bare-behind : (n k x : ℕ) → n ≤ k → bare n k x ≡ eqb x 0
 unfolding bare
 bare-behind n k x h = rw (le-ltb k n h)
+
+-- a licence: of a live cell any, else 0
+pub licence-live : (t code licence : ℕ) → t ≡ code → (t ≡ 0 → ⊥) → true ≡ licenceRight code licence
+unfolding licenceRight
+licence-live t code licence e some = rw (ne-eqb code 0 (λ z. some (e ∙ z))) refl
+
+pub licence-dead : (t code x licence : ℕ) → t ≡ code → t ≡ 0 → x ≡ licence → eqb x 0 ≡ licenceRight code licence
+unfolding licenceRight
+licence-dead t code x licence e none f = rw (eq-eqb code 0 (sym e ∙ none), f) refl
 
 -- marks in the second part
 module _ (marks : List ℕ) (k : ℕ) where

@@ -27,7 +27,7 @@ use Rattle.chain.specs.Chain.{Linked}
 use Rattle.facet.specs.Facet.{marksIn}
 use Rattle.record_checks.specs.Laid.{typed, laidIn}
 use Rattle.record_checks.specs.Upright.{Upright}
-use Rattle.record_checks.proofs.Records.{marks-length, marks-inside, typed-passes}
+use Rattle.record_checks.proofs.Records.{marks-length, marks-inside, typed-passes, licence-none}
 use Rattle.record_checks.proofs.Seen.{bodySeen, seen, Headed, body-here, body-past, seen-once, few-seen}
 use Rattle.numbers.specs.Sizes.{mostAround}
 
@@ -114,7 +114,7 @@ module _ (w : List ℕ) (caps : Caps) (hd : Headed w caps) (laid : laidIn w caps
       go : Dec (c < caps .cells) → bodySeen w caps c ≡ noCell
       go (yes h) =
           let e : codeIn w caps c ≡ 0 = sym (ap (λ (b : Body). b .code) (body-here w caps c h)) ∙ eqb-true (bodySeen w caps c .code) 0 (zero-of _ t) in
-          body-here w caps c h ∙ rw (no-marks c h e, e)
+          body-here w caps c h ∙ rw (no-marks c h e, licence-none w caps hd laid c h e, e)
       go (no h) = body-past w caps c (omega arith)
 
   body-typed : (c : ℕ) → not (eqb (bodySeen w caps c .code) 0) ≡ true → 0 < shape (bodySeen w caps c .code) .dimension

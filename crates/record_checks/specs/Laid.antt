@@ -10,7 +10,7 @@ use Rattle.shapes.specs.Sizes.{mostMarks, mostFacets}
 use Rattle.numbers.specs.declared.Caps.{Caps}
 use Rattle.numbers.specs.Sizes.{mostAround}
 use Rattle.store.specs.Fields.{First, Held, Sib, Link, Far}
-use Rattle.store.specs.Slots.{InMark, InCell, read, codeIn, cornerIn}
+use Rattle.store.specs.Slots.{InMark, InCell, read, codeIn, licenceIn, cornerIn}
 use Rattle.store.specs.Rests.{headBlank, markBlank, cellBlank}
 use Rattle.facet.specs.Facet.{marksIn}
 use Rattle.numbers.specs.Half.{cut}
@@ -42,13 +42,21 @@ cornerRight w caps c marks k =
 unfoldable pub facetRight : List ℕ → Caps → ℕ → ℕ → ℕ → Bool
 facetRight w caps c n f = bare n f (read w caps (InCell (cut c) (Sib f)))
 
--- a cell's record: its type, its marks, each corner, each facet, and the words that say nothing
+-- a live cell may have any licence; under a number that is not live there is none
+unfoldable pub licenceRight : ℕ → ℕ → Bool
+licenceRight code licence = not (eqb code 0) || eqb licence 0
+
+-- the words that say nothing, and the licence
+unfoldable pub restRight : List ℕ → Caps → ℕ → Bool
+restRight w caps c = cellBlank w caps c && licenceRight (codeIn w caps c) (licenceIn w caps c)
+
+-- a cell's record: its type, its marks, each corner, each facet, the words that say nothing, and its licence
 unfoldable pub recordRight : List ℕ → Caps → ℕ → Bool
 recordRight w caps c =
     typed (codeIn w caps c)
     && (fine caps (marksIn w caps c)
     && (every mostMarks (cornerRight w caps c (marksIn w caps c))
-    && (every mostFacets (facetRight w caps c (facetCount (codeIn w caps c))) && cellBlank w caps c)))
+    && (every mostFacets (facetRight w caps c (facetCount (codeIn w caps c))) && restRight w caps c)))
 
 -- the link behind a link, at the corner that it says
 unfoldable pub linkBehind : List ℕ → Caps → ℕ → ℕ

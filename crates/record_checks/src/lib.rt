@@ -8,7 +8,7 @@ ghost use mathlib.Core.Path.{_≡_};
 ghost use Rattle.lists.specs.Lists.{all, every};
 ghost use Rattle.shapes.specs.Shapes.{facetCount};
 ghost use Rattle.shapes.specs.Sizes.{mostMarks, mostFacets};
-ghost use Rattle.record_checks.specs.Laid.{typed, fine, farMark, cornerRight, facetRight, recordRight, stands, chainRight, meets, markRight, cellRight, laidIn};
+ghost use Rattle.record_checks.specs.Laid.{typed, fine, farMark, cornerRight, facetRight, restRight, recordRight, stands, chainRight, meets, markRight, cellRight, laidIn};
 use facet::marks_at;
 use lists::reaches;
 use lists::repeats;
@@ -29,6 +29,7 @@ use store::far_of;
 use store::first_of;
 use store::head_blank;
 use store::held_of;
+use store::licence_of;
 use store::link_of;
 use store::mark_blank;
 use store::sibling_word;
@@ -109,6 +110,19 @@ fn facets_ok(w: &[u32], caps: Caps, c: Cell, t: u32) -> bool
     true
 }
 
+// The words that say nothing are 0, and so is the licence under a number that is not live.
+fn rest_ok(w: &[u32], caps: Caps, c: Cell) -> bool
+    ensures { λ r. ⌜ r ≡ restRight (now (w .entry)) caps (c .0) ⌝ }
+{
+    if !cell_blank(w, caps, c) {
+        return false;
+    }
+    if code_of(w, caps, c) != 0 {
+        return true;
+    }
+    licence_of(w, caps, c) == 0
+}
+
 // A cell's record by itself.
 fn record_ok(w: &[u32], caps: Caps, c: Cell) -> bool
     ensures { λ r. ⌜ r ≡ recordRight (now (w .entry)) caps (c .0) ⌝ }
@@ -127,7 +141,7 @@ fn record_ok(w: &[u32], caps: Caps, c: Cell) -> bool
     if !facets_ok(w, caps, c, t) {
         return false;
     }
-    cell_blank(w, caps, c)
+    rest_ok(w, caps, c)
 }
 
 // Whether the chain of v meets the cell c.

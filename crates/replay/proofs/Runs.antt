@@ -10,14 +10,14 @@ use lib.ListN.{length, getD, take}
 use lib.Seq.{ext-getD, getD-take, length-take-le}
 use Rattle.words.specs.Words.{partOf, Only}
 use Rattle.shapes.specs.Shapes.{shape}
-use Rattle.map.specs.Cells.{bodyOf}
+use Rattle.map.specs.Cells.{licensedBody}
 use Rattle.map.specs.History.{Edit, Insert, Remove}
 use Rattle.map.specs.declared.Verdict.{Verdict}
 use Rattle.mesh.specs.Edited.{Edited}
 use Rattle.mesh.specs.Run as R
 use Rattle.mesh.specs.Run.{Run}
 use Rattle.journal_store.specs.Entries.{entryAt, insertKind}
-use Rattle.journal_store.specs.Journals.{typeIn, editIn, editsIn}
+use Rattle.journal_store.specs.Journals.{typeIn, licenceIn, editIn, editsIn}
 use Rattle.journal_store.specs.Writes.{Copied}
 use Rattle.journal_store.proofs.Copying.{copied-word}
 use Rattle.replay.specs.Replayed.{Replayed}
@@ -44,15 +44,16 @@ pub run-all : (j w w′ : List ℕ) (k n : ℕ) → Run w (editsIn j k) w′ →
 run-all j w w′ k n run a b = let same : k ≡ n = omega arith in rw same at run
 
 module _ (j w w′ : List ℕ) (k : ℕ) (kind c : ℕ) (ek : kind ≡ getD j (entryAt k + 1) 0) (ec : c ≡ getD j (entryAt k + 2) 0) (r : Verdict) where
-  pub insert-entry : kind ≡ insertKind → (t at n : ℕ) (marks : List ℕ) → t ≡ typeIn j k → at ≡ entryAt k + 5 → n ≡ shape t .marks → marks ≡ partOf j at n
-      → Edited w (Insert c (bodyOf t marks)) r w′ → Edited w (editIn j k) r w′
+  pub insert-entry : kind ≡ insertKind → (t licence at n : ℕ) (marks : List ℕ) → t ≡ typeIn j k → licence ≡ licenceIn j k → at ≡ entryAt k + 5 → n ≡ shape t .marks → marks ≡ partOf j at n
+      → Edited w (Insert c (licensedBody t licence marks)) r w′ → Edited w (editIn j k) r w′
   unfolding editIn
-  insert-entry ki t at n marks et ea en em d =
+  insert-entry ki t licence at n marks et el ea en em d =
       let q : getD j (entryAt k + 1) 0 ≡ insertKind = sym ek ∙ ki in
       rw (q) (subst (λ (e : Edit). Edited w e r w′) same d)
     where
-      same : Insert c (bodyOf t marks) ≡ Insert (getD j (entryAt k + 2) 0) (bodyOf (typeIn j k) (partOf j (entryAt k + 5) (shape (typeIn j k) .marks)))
-      same = rw (em, en, ea, et, ec)
+      same : Insert c (licensedBody t licence marks)
+          ≡ Insert (getD j (entryAt k + 2) 0) (licensedBody (typeIn j k) (licenceIn j k) (partOf j (entryAt k + 5) (shape (typeIn j k) .marks)))
+      same = rw (em, en, ea, el, et, ec)
 
   pub remove-entry : (kind ≡ insertKind → ⊥) → Edited w (Remove c) r w′ → Edited w (editIn j k) r w′
   unfolding editIn

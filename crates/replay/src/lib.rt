@@ -12,10 +12,11 @@ ghost use Rattle.replay.specs.Replayed.{Replayed};
 use journal_store::cell_of;
 use journal_store::copy_words;
 use journal_store::kind_of;
+use journal_store::licence_of;
 use journal_store::marks_at;
 use journal_store::type_of;
 use map::Verdict;
-use mesh::insert;
+use mesh::insert_licensed;
 use mesh::remove;
 use numbers::Cell;
 use shapes::mark_count;
@@ -28,7 +29,14 @@ fn one_entry(w: &mut [u32], j: &[u32], k: u32) -> Verdict
     let c = Cell(cell_of(j, k));
     if kind_of(j, k) == 1 {
         let t = type_of(j, k);
-        return insert(w, c, t, part(j, marks_at(k), mark_count(t) as usize));
+        let licence = licence_of(j, k);
+        return insert_licensed(
+            w,
+            c,
+            t,
+            licence,
+            part(j, marks_at(k), mark_count(t) as usize),
+        );
     }
     remove(w, c)
 }

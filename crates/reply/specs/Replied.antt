@@ -16,7 +16,7 @@ use Rattle.map.specs.Says.{verdictSays}
 use Rattle.journal_store.specs.Entries.{headWords, placesOf}
 use Rattle.frames.specs.declared.Frame as Code
 use Rattle.frames.specs.Frames.{Frame, Format, Change, Journal, begun, replyTo, journalAfter, written}
-use Rattle.frames.specs.Forms.{carried, marksCarried, Appended}
+use Rattle.frames.specs.Forms.{carried, marksCarried, Unlicensed, Appended}
 use Rattle.reply.specs.Memory.{Memory, memory, Keeps, Within, reach, Inside}
 
 -- "more is refused with 1"; memory without room for 384 marks and 384 cells, or for a journal's head, with 2
@@ -55,7 +55,7 @@ QuestionAnswered f w o at r o′ = (j start : List ℕ) → FrameAnswered f (mem
 
 -- the same of a frame as the code carries it, with the marks of an insert in the first places of marks
 abbrev pub Obeyed : Code.Frame → List ℕ → Memory → List ℕ → ℕ → ℕ → Memory → List ℕ → Type 0
-Obeyed frame marks w o at r w′ o′ = (f : Frame) → frame ≡ carried f → partOf marks 0 (length (marksCarried f)) ≡ marksCarried f → FrameAnswered f w o at r w′ o′
+Obeyed frame marks w o at r w′ o′ = (f : Frame) → Unlicensed f → frame ≡ carried f → partOf marks 0 (length (marksCarried f)) ≡ marksCarried f → FrameAnswered f w o at r w′ o′
 
 -- and no word beyond the room of 384 marks and 384 cells changes, on any memory
 pub record Replied (f : Frame) (w : Memory) (o : List ℕ) (at r : ℕ) (w′ : Memory) (o′ : List ℕ) : Type 0 where

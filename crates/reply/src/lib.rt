@@ -95,7 +95,7 @@ fn reply_insert(
 ) -> usize
     ensures { λ r. ⌜ EditAnswered day (Insert (c .0) (bodyOf t (now (marks .entry)))) (now (mesh .entry)) (now (journal .entry)) (now (out .entry)) at r (now (mesh .exit)) (now (journal .exit)) (now (out .exit)) ⌝ }
 {
-    let said = enter_insert(mesh, journal, day, c, t, marks);
+    let said = enter_insert(mesh, journal, day, c, t, 0, marks);
     write_verdict(out, at, said)
 }
 

@@ -5,7 +5,7 @@ use Prim.Native.Nat.{ℕ, zero, suc, _+_, _<_, _≤_}
 use native.Mathlib.Nat.{not-suc-le-zero, eq-or-lt-of-le}
 use native.Mathlib.Omega.{arith}
 use mathlib.Core.Path.{subst}
-use Rattle.store.specs.Fields.{HeadField, Magic, MarkCap, CellCap, Edition, Count, HeadRest, MarkField, First, Held, Anchor, MarkRest, CellField, Code, Near, Sib, Link, Far, CellRest, Place, InNear, InFar, headPlace, headFields, headField, markPlace, markFields, markField, cellPlace, nearFields, farFields, cellField, HeadFits, MarkFits, PlaceFits, CellFits}
+use Rattle.store.specs.Fields.{HeadField, Magic, MarkCap, CellCap, Edition, Count, HeadRest, MarkField, First, Held, Anchor, MarkRest, CellField, Code, Licence, Near, Sib, Link, Far, CellRest, Place, InNear, InFar, headPlace, headFields, headField, markPlace, markFields, markField, cellPlace, nearFields, farFields, cellField, HeadFits, MarkFits, PlaceFits, CellFits}
 use Rattle.shapes.specs.Sizes.{mostCode, mostFacets, mostMarks}
 use Rattle.store.specs.Layout.{markWords, nearMarks}
 
@@ -80,7 +80,7 @@ near-places = ((((((((((((((((none, refl), refl), refl), refl), refl), refl), re
 
 near-fits : Below (λ k. CellFits (cellField (InNear k))) 16
 unfolding Below cellField nearFields
-near-fits = ((((((((((((((((none, omega arith), omega arith), omega arith), omega arith), omega arith), omega arith), omega arith), omega arith), omega arith), omega arith), omega arith), omega arith), omega arith), omega arith), omega arith), (omega arith, refl))
+near-fits = ((((((((((((((((none, omega arith), omega arith), omega arith), omega arith), omega arith), omega arith), omega arith), omega arith), omega arith), omega arith), omega arith), omega arith), omega arith), omega arith), omega arith), omega arith)
 
 far-places : Below (λ k. cellPlace (cellField (InFar k)) ≡ InFar k) 16
 unfolding Below cellPlace cellField farFields
@@ -124,6 +124,10 @@ cell-code : Told Code
 unfolding Told cellPlace cellField nearFields
 cell-code = (omega arith, refl)
 
+cell-licence : Told Licence
+unfolding Told cellPlace cellField nearFields
+cell-licence = (omega arith, refl)
+
 cell-rest : (p : Place) → CellFits (CellRest p) → Told (CellRest p)
 unfolding Told cellPlace
 cell-rest p h = h
@@ -131,6 +135,7 @@ cell-rest p h = h
 pub cell-at : (f : CellField) → CellFits f → PlaceFits (cellPlace f) × (cellField (cellPlace f) ≡ f)
 unfolding Told
 cell-at Code h = cell-code
+cell-at Licence h = cell-licence
 cell-at (Near k) h = below (λ k. Told (Near k)) nearMarks cell-nears k h
 cell-at (Sib f) h = below (λ f. Told (Sib f)) mostFacets cell-sibs f h
 cell-at (Link k) h = below (λ k. Told (Link k)) mostMarks cell-links k h

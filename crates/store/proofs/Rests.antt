@@ -8,14 +8,14 @@ use borrow.Author.Tests.{eq-eqb, eqb-true, ltb-true}
 use lib.Dec.{eqb, ltb}
 use lib.ListN.{getD}
 use Rattle.lists.specs.Lists.{all, has, every}
-use Rattle.lists.proofs.Bools.{clash, and-left, and-right, and-both}
+use Rattle.lists.proofs.Bools.{clash, and-left, and-right}
 use Rattle.lists.proofs.Members.{all-has, has-all}
 use Rattle.lists.proofs.Every.{every-at}
 use Rattle.numbers.specs.declared.Caps.{Caps}
-use Rattle.store.specs.Layout.{markWords, markAt, nearAt, farAt}
-use Rattle.store.specs.Fields.{HeadField, Magic, MarkCap, CellCap, Edition, Count, HeadRest, MarkField, First, Held, Anchor, MarkRest, CellField, Code, Near, Sib, Link, Far, CellRest, Place, InNear, InFar, headPlace, headFields, headField, markPlace, markFields, markField, cellPlace, nearFields, farFields, cellField, HeadFits, MarkFits, CellFits}
+use Rattle.store.specs.Layout.{markWords, markAt, farAt}
+use Rattle.store.specs.Fields.{HeadField, Magic, MarkCap, CellCap, Edition, Count, HeadRest, MarkField, First, Held, Anchor, MarkRest, CellField, Code, Licence, Near, Sib, Link, Far, CellRest, Place, InNear, InFar, headPlace, headFields, headField, markPlace, markFields, markField, cellPlace, nearFields, farFields, cellField, HeadFits, MarkFits, CellFits}
 use Rattle.store.specs.Slots.{Slot, InHead, InMark, InCell, placeAt, address, read}
-use Rattle.store.specs.Rests.{headRests, markRests, nearRests, farRests, blank, headBlank, markBlank, cellBlank}
+use Rattle.store.specs.Rests.{headRests, markRests, farRests, blank, headBlank, markBlank, cellBlank}
 use Rattle.store.proofs.Fields.{head-of, mark-of, cell-of}
 
 -- a field that says nothing
@@ -51,6 +51,7 @@ mark-silent (MarkRest k) e = refl
 
 cellSilent : CellField → Bool
 cellSilent Code = false
+cellSilent Licence = false
 cellSilent (Near k) = false
 cellSilent (Sib f) = false
 cellSilent (Link k) = false
@@ -60,6 +61,7 @@ cellSilent (CellRest p) = true
 cell-silent : (f : CellField) → cellSilent f ≡ true → f ≡ CellRest (cellPlace f)
 unfolding cellSilent cellPlace
 cell-silent Code e = absurd (clash e refl)
+cell-silent Licence e = absurd (clash e refl)
 cell-silent (Near k) e = absurd (clash e refl)
 cell-silent (Sib f) e = absurd (clash e refl)
 cell-silent (Link k) e = absurd (clash e refl)
@@ -101,8 +103,8 @@ mark-named : names markWords (λ k. markSilent (markField k)) markRests ≡ true
 unfolding names every all has alike markSilent markField markFields markRests
 mark-named = refl
 
-near-named : names 16 (λ k. cellSilent (cellField (InNear k))) nearRests ≡ true
-unfolding names every all has alike cellSilent cellField nearFields nearRests
+near-named : names 16 (λ k. cellSilent (cellField (InNear k))) [] ≡ true
+unfolding names every all has alike cellSilent cellField nearFields
 near-named = refl
 
 far-named : names 16 (λ k. cellSilent (cellField (InFar k))) farRests ≡ true
@@ -110,21 +112,16 @@ unfolding names every all has alike cellSilent cellField farFields farRests
 far-named = refl
 
 -- as the code reads them, place by place
-one-and : (a b : Bool) → a && b ≡ (a && true) && b
-one-and true b = refl
-one-and false b = refl
-
 pub mark-blank : (w : List ℕ) (caps : Caps) (v at : ℕ) (r : Bool) → r ≡ all (λ i. eqb (getD w i 0) 0) ((at + 5) ∷ (at + 6) ∷ (at + 7) ∷ [])
     → at ≡ markAt v → r ≡ markBlank w caps v
 unfolding markBlank markRests blank read address markPlace all
 mark-blank w caps v at r e m = e ∙ rw m
 
-pub cell-blank : (w : List ℕ) (caps : Caps) (c near far : ℕ) (r : Bool)
-    → r ≡ all (λ i. eqb (getD w i 0) 0) ((near + 15) ∷ (far + 12) ∷ (far + 13) ∷ (far + 14) ∷ (far + 15) ∷ [])
-    → near ≡ nearAt (caps .marks) c → far ≡ farAt (caps .marks) (caps .cells) c → r ≡ cellBlank w caps c
-unfolding cellBlank nearRests farRests blank read address placeAt cellPlace all
-cell-blank w caps c near far r e n f =
-    e ∙ rw (n, f) (one-and (eqb (getD w (nearAt (caps .marks) c + 15) 0) 0) (all (λ k. eqb (getD w (farAt (caps .marks) (caps .cells) c + k) 0) 0) farRests))
+pub cell-blank : (w : List ℕ) (caps : Caps) (c far : ℕ) (r : Bool)
+    → r ≡ all (λ i. eqb (getD w i 0) 0) ((far + 12) ∷ (far + 13) ∷ (far + 14) ∷ (far + 15) ∷ [])
+    → far ≡ farAt (caps .marks) (caps .cells) c → r ≡ cellBlank w caps c
+unfolding cellBlank farRests blank read address placeAt cellPlace all
+cell-blank w caps c far r e f = e ∙ rw f
 
 module _ (w : List ℕ) (caps : Caps) where
   -- one of a list of blank slots
@@ -168,23 +165,17 @@ module _ (w : List ℕ) (caps : Caps) where
   -- a cell's
   module _ (c : ℕ) where
     pub cell-rest : cellBlank w caps c ≡ true → (p : Place) → CellFits (CellRest p) → read w caps (InCell c (CellRest p)) ≡ 0
-    unfolding cellBlank cellSilent
+    unfolding cellBlank cellSilent has
     cell-rest e (InNear k) h =
-        one-blank (λ k. InCell c (CellRest (InNear k))) nearRests (and-left _ (all (λ k. blank w caps (InCell c (CellRest (InFar k)))) farRests) e) k
-        (silent-named 16 (λ k. cellSilent (cellField (InNear k))) nearRests near-named k (h .0) (ap cellSilent (h .1)))
+        absurd (clash (silent-named 16 (λ k. cellSilent (cellField (InNear k))) [] near-named k (h .0) (ap cellSilent (h .1))) refl)
     cell-rest e (InFar k) h =
-        one-blank (λ k. InCell c (CellRest (InFar k))) farRests (and-right (all (λ k. blank w caps (InCell c (CellRest (InNear k)))) nearRests) _ e) k
+        one-blank (λ k. InCell c (CellRest (InFar k))) farRests e k
         (silent-named 16 (λ k. cellSilent (cellField (InFar k))) farRests far-named k (h .0) (ap cellSilent (h .1)))
 
     pub rest-cell : ((p : Place) → CellFits (CellRest p) → read w caps (InCell c (CellRest p)) ≡ 0) → cellBlank w caps c ≡ true
     unfolding cellBlank
     rest-cell f =
-        and-both _ _
-        (all-blank (λ k. InCell c (CellRest (InNear k))) nearRests
-        (λ k t.
-        let s = named-silent 16 (λ k. cellSilent (cellField (InNear k))) nearRests near-named k t in
-        f (InNear k) (s .0, cell-silent (cellField (InNear k)) (s .1) ∙ ap CellRest (cell-of (InNear k) (s .0) .0))))
-        (all-blank (λ k. InCell c (CellRest (InFar k))) farRests
+        all-blank (λ k. InCell c (CellRest (InFar k))) farRests
         (λ k t.
         let s = named-silent 16 (λ k. cellSilent (cellField (InFar k))) farRests far-named k t in
-        f (InFar k) (s .0, cell-silent (cellField (InFar k)) (s .1) ∙ ap CellRest (cell-of (InFar k) (s .0) .0))))
+        f (InFar k) (s .0, cell-silent (cellField (InFar k)) (s .1) ∙ ap CellRest (cell-of (InFar k) (s .0) .0)))

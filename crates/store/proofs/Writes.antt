@@ -13,7 +13,7 @@ use denote.Ref.{RefT}
 use Rattle.words.specs.Words.{Only, Part}
 use Rattle.words.proofs.Frame.{only-none, only-put}
 use Rattle.store.specs.Layout.{nearMarks, room, markAt, nearAt, farAt}
-use Rattle.store.specs.Fields.{HeadField, Magic, MarkCap, CellCap, Edition, Count, HeadRest, MarkField, First, Held, Anchor, MarkRest, CellField, Code, Near, Sib, Link, Far, CellRest, headPlace, markPlace, cellPlace, HeadFits, MarkFits, CellFits}
+use Rattle.store.specs.Fields.{HeadField, Magic, MarkCap, CellCap, Edition, Count, HeadRest, MarkField, First, Held, Anchor, MarkRest, CellField, Code, Licence, Near, Sib, Link, Far, CellRest, headPlace, markPlace, cellPlace, HeadFits, MarkFits, CellFits}
 use Rattle.store.specs.Slots.{Slot, InHead, InMark, InCell, placeAt, address, Within, headOpen, markOpen, cellOpen, writable, read, written, cornerIn, marksAt}
 use Rattle.store.proofs.Slots.{slot-below}
 use Rattle.shapes.specs.Sizes.{mostCode, mostFacets, mostMarks}
@@ -59,6 +59,7 @@ mark-open (MarkRest k) e = never e
 cell-open : (f : CellField) → cellOpen f ≡ true → CellFits f
 unfolding cellOpen
 cell-open Code e = omega arith
+cell-open Licence e = omega arith
 cell-open (Near k) e = ltb-true k nearMarks e
 cell-open (Sib f) e = ltb-true f mostFacets e
 cell-open (Link k) e = ltb-true k mostMarks e

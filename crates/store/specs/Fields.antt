@@ -60,10 +60,11 @@ pub data Place : Type 0 where
   InNear : ℕ → Place
   InFar : ℕ → Place
 
--- a word of a cell's record: the type, its first four marks, the sibling of each facet, the link at each corner, all marks of a cell
--- with more than four
+-- a word of a cell's record: the type, its first four marks, the sibling of each facet, the link at each corner, the licence, all marks of a
+-- cell with more than four
 pub data CellField : Type 0 where
   Code : CellField
+  Licence : CellField
   Near : ℕ → CellField
   Sib : ℕ → CellField
   Link : ℕ → CellField
@@ -72,6 +73,7 @@ pub data CellField : Type 0 where
 
 unfoldable pub cellPlace : CellField → Place
 cellPlace Code = InNear 0
+cellPlace Licence = InNear 15
 cellPlace (Near k) = InNear (1 + k)
 cellPlace (Sib f) = InNear (5 + f)
 cellPlace (Link k) = cond (ltb k nearMarks) (InNear (11 + k)) (InFar (4 + k))
@@ -83,7 +85,7 @@ nearFields =
     Code ∷ Near 0 ∷ Near 1 ∷ Near 2
     ∷ Near 3 ∷ Sib 0 ∷ Sib 1 ∷ Sib 2
     ∷ Sib 3 ∷ Sib 4 ∷ Sib 5 ∷ Link 0
-    ∷ Link 1 ∷ Link 2 ∷ Link 3 ∷ CellRest (InNear 15)
+    ∷ Link 1 ∷ Link 2 ∷ Link 3 ∷ Licence
     ∷ []
 
 unfoldable pub farFields : List CellField
@@ -119,6 +121,7 @@ PlaceFits (InFar k) = k < partWords
 
 abbrev pub CellFits : CellField → Type 0
 CellFits Code = 0 < partWords
+CellFits Licence = 0 < partWords
 CellFits (Near k) = k < nearMarks
 CellFits (Sib f) = f < mostFacets
 CellFits (Link k) = k < mostMarks

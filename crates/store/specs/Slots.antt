@@ -8,7 +8,7 @@ use Rattle.numbers.specs.declared.Caps.{Caps}
 use Rattle.map.specs.declared.Way.{Way}
 use Rattle.map.specs.Ways.{wayNumber, wayAt}
 use Rattle.store.specs.Layout.{nearMarks, pastHalves, markAt, nearAt, farAt}
-use Rattle.store.specs.Fields.{HeadField, Magic, MarkCap, CellCap, Edition, Count, HeadRest, MarkField, First, Held, Anchor, MarkRest, CellField, Code, Near, Sib, Link, Far, CellRest, Place, InNear, InFar, headPlace, markPlace, cellPlace, HeadFits, MarkFits, CellFits}
+use Rattle.store.specs.Fields.{HeadField, Magic, MarkCap, CellCap, Edition, Count, HeadRest, MarkField, First, Held, Anchor, MarkRest, CellField, Code, Licence, Near, Sib, Link, Far, CellRest, Place, InNear, InFar, headPlace, markPlace, cellPlace, HeadFits, MarkFits, CellFits}
 use Rattle.shapes.specs.Sizes.{mostCode, mostFacets, mostMarks}
 
 pub data Slot : Type 0 where
@@ -52,6 +52,7 @@ markOpen (MarkRest k) = false
 
 unfoldable pub cellOpen : CellField → Bool
 cellOpen Code = true
+cellOpen Licence = true
 cellOpen (Near k) = ltb k nearMarks
 cellOpen (Sib f) = ltb f mostFacets
 cellOpen (Link k) = ltb k mostMarks
@@ -70,6 +71,10 @@ written w caps x y = cond (writable caps x) (set w (address (caps .marks) (caps 
 -- the type of a cell
 abbrev pub codeIn : List ℕ → Caps → ℕ → ℕ
 codeIn w caps c = read w caps (InCell c Code)
+
+-- the licence of a cell
+abbrev pub licenceIn : List ℕ → Caps → ℕ → ℕ
+licenceIn w caps c = read w caps (InCell c Licence)
 
 -- the mark at a corner of a cell
 unfoldable pub cornerIn : List ℕ → Caps → ℕ → ℕ → ℕ

@@ -12,7 +12,7 @@ ghost use lib.ListN.{getD};
 ghost use Rattle.lists.specs.Lists.{all};
 ghost use Rattle.words.specs.Words.{Part};
 ghost use Rattle.store.specs.Layout.{room, headWords, markWords, partWords};
-ghost use Rattle.store.specs.Fields.{Count, First, Held, Anchor, Code, Near, Sib, Link, Far};
+ghost use Rattle.store.specs.Fields.{Count, First, Held, Anchor, Code, Licence, Near, Sib, Link, Far};
 ghost use Rattle.store.specs.Slots.{InHead, InMark, InCell, read, written, cornerIn, marksAt, siblingIn, wayIn, packed};
 ghost use Rattle.store.specs.Rests.{headBlank, markBlank, cellBlank};
 ghost use Rattle.store.specs.Open.{opened, headed};
@@ -215,6 +215,22 @@ pub fn write_code(w: &mut [u32], caps: Caps, c: Cell, x: u32)
     put(w, near_at(caps, c), x);
 }
 
+// The licence of a cell; 0 while it is not live.
+pub fn licence_of(w: &[u32], caps: Caps, c: Cell) -> u32
+    ensures { λ r. ⌜ r ≡ read (now (w .entry)) caps (InCell (c .0) Licence) ⌝ }
+{
+    word(w, near_at(caps, c) + 15)
+}
+
+pub fn write_licence(w: &mut [u32], caps: Caps, c: Cell, x: u32)
+    ensures { λ _. ⌜ now (w .exit) ≡ written (now (w .entry)) caps (InCell (c .0) Licence) x ⌝ }
+{
+    if caps.cells <= c.0 {
+        return;
+    }
+    put(w, near_at(caps, c) + 15, x);
+}
+
 // The mark at a corner of a cell.
 pub fn corner_of(w: &[u32], caps: Caps, c: Cell, k: u32) -> Mark
     ensures { λ r. ⌜ r .0 ≡ cornerIn (now (w .entry)) caps (c .0) k ⌝ }
@@ -376,8 +392,7 @@ pub fn mark_blank(w: &[u32], caps: Caps, v: Mark) -> bool
 pub fn cell_blank(w: &[u32], caps: Caps, c: Cell) -> bool
     ensures { λ r. ⌜ r ≡ cellBlank (now (w .entry)) caps (c .0) ⌝ }
 {
-    let at = near_at(caps, c);
     let far = far_at(caps, c);
-    let places = [at + 15, far + 12, far + 13, far + 14, far + 15];
+    let places = [far + 12, far + 13, far + 14, far + 15];
     blank_at(w, &places)
 }

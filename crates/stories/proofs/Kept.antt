@@ -11,7 +11,7 @@ use Rattle.lists.specs.Lists.{has, place, sameSet}
 use Rattle.lists.proofs.Sets.{same-has}
 use Rattle.lists.proofs.Members.{at-has}
 use Rattle.numbers.specs.declared.Caps.{Caps}
-use Rattle.store.specs.Fields.{MarkField, First, Held, Anchor, MarkRest, CellField, Code, Near, Sib, Link, Far, CellRest, CellFits}
+use Rattle.store.specs.Fields.{MarkField, First, Held, Anchor, MarkRest, CellField, Code, Licence, Near, Sib, Link, Far, CellRest, CellFits}
 use Rattle.store.specs.Slots.{Slot, InMark, InCell, Within, read}
 use Rattle.map.specs.Cells.{Body, Map, holds}
 use Rattle.map.specs.Siblings.{isHalf, marksOf, sibling}
@@ -113,6 +113,7 @@ module _ (m m′ : Map) (c : ℕ) (a : Apart m m′ c) where
     cell-kept : (f : CellField) → CellFits f → cellWord (m′ .caps) (stateOf m′) x f ≡ cellWord (m .caps) (stateOf m) x f
     unfolding cellWord corner
     cell-kept Code h = ap (λ (y : Body). y .code) at-kept
+    cell-kept Licence h = ap (λ (y : Body). y .licence) at-kept
     cell-kept (Near k) h = ap (λ (y : Body). getD (y .marks) k 0) at-kept
     cell-kept (Sib f) h = sib-kept (8 * x + f) (omega arith)
     cell-kept (Link k) h = links-kept k

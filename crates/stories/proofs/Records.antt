@@ -1,5 +1,5 @@
--- What one record fixes, in any two well-formed memories: a cell's record its siblings and their ways, a mark's record its first anchors. And
--- the head's live counts.
+-- What one record fixes, in any two well-formed memories: a cell's record its type, its licence, its siblings and their ways, a mark's record its first
+-- anchors. And the head's live counts.
 use mathlib.Core.Path.{_≡_, refl, sym, ap, ap₂, _∙_}
 use mathlib.Core.Bool.{Bool, true, false, cond, not, _||_}
 use mathlib.Core.List.{List, [], _∷_}
@@ -17,7 +17,7 @@ use Rattle.shapes.specs.Shapes.{facetCount}
 use Rattle.shapes.specs.Sizes.{mostFacets, mostCode}
 use Rattle.shapes.proofs.Facts.{facts}
 use Rattle.store.specs.Layout.{partWords, markWords, markAt, nearAt}
-use Rattle.store.specs.Fields.{Count, Anchor, markPlace, Place, InNear, InFar, Code, Sib, cellPlace}
+use Rattle.store.specs.Fields.{Count, Anchor, markPlace, Place, InNear, InFar, Code, Licence, Sib, cellPlace}
 use Rattle.store.specs.Slots.{InHead, InCell, placeAt, address, read}
 use Rattle.map.specs.Cells.{Map, live, cellsOf}
 use Rattle.map.specs.Siblings.{sibling}
@@ -28,7 +28,7 @@ use Rattle.map.specs.Answers.{Check, Answer, _when_, answer, cellChecks, halfCh
 use Rattle.picture.specs.State.{next, stateOf}
 use Rattle.picture.specs.Picture.{Wf}
 use Rattle.picture.proofs.Record.{count-read}
-use Rattle.checks.proofs.Rows.{code-of}
+use Rattle.checks.proofs.Rows.{code-of, licence-of}
 use Rattle.ask.proofs.Words.{sibling-is, way-is, anchor-is}
 
 -- two lists with the same first as number + 1 have the same first
@@ -81,6 +81,13 @@ module _ {w w′ : List ℕ} {m m′ : Map} (wf : Wf w m) (wf′ : Wf w′ m′)
     code-fixed =
         sym (code-of (m .caps) m refl w wf c below)
         ∙ (same (wordIn (cellPlace Code)) (omega arith) ∙ code-of (m′ .caps) m′ refl w′ wf′ c below′)
+
+    -- and has one licence
+    pub licence-fixed : m .at c .licence ≡ m′ .at c .licence
+    unfolding read address placeAt cellPlace wordIn
+    licence-fixed =
+        sym (licence-of (m .caps) m refl w wf c below)
+        ∙ (same (wordIn (cellPlace Licence)) (omega arith) ∙ licence-of (m′ .caps) m′ refl w′ wf′ c below′)
 
     -- and each of its facets has the same word in both
     word-fixed : (f : ℕ) → f < mostFacets → read w (m .caps) (InCell c (Sib f)) ≡ read w′ (m′ .caps) (InCell c (Sib f))

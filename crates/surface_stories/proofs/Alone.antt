@@ -13,7 +13,7 @@ use Rattle.picture.specs.Picture.{Wf}
 use Rattle.picture.proofs.Put.{wf-alone}
 use Rattle.off.specs.Words.{Word}
 use Rattle.off.specs.Reading.{Read, Got, Stop, Surface, reading}
-use Rattle.surfaces.specs.ReadsOff.{surfacedSays, capsOf, roomRefusal, outcome, SurfaceLeft, ReadsOff}
+use Rattle.surfaces.specs.ReadsOff.{surfacedSays, capsOf, roomRefusal, outcome, readAnswer, SurfaceLeft, ReadsOff}
 use Rattle.surfaces.specs.declared.Surfaced.{Surfaced}
 use Rattle.surfaces_out.specs.WritesOff.{writtenSays, WritesOff}
 use Rattle.surfaces_out.specs.declared.Written.{Written}
@@ -36,6 +36,26 @@ read-alone {w} {a} {b} {text} {p} {pa} {pb} {r} {t} x y = let g = go (reading te
     go : (z : Read Surface) → reading text ≡ z → (a ≡ b) × (pa ≡ pb)
     go (Stop place) e = (x .broke place e .0 ∙ sym (y .broke place e .0), x .broke place e .1 ∙ sym (y .broke place e .1))
     go (Got s us) e = here s us e (ℕ-discrete (roomRefusal (length w) (length p) s) 0)
+
+-- what a read answers and leaves follows from what its text says alone
+answer-said : (words numbers : ℕ) (s : Surface) (us vs : List Word) → readAnswer words numbers (Got s us) ≡ readAnswer words numbers (Got s vs)
+unfolding readAnswer
+answer-said words numbers s us vs = refl
+
+pub read-said : {w a b text other : List ℕ} {p pa pb : List ℤ} {r t : Surfaced} (s : Surface) (us vs : List Word)
+    → reading text ≡ Got s us → reading other ≡ Got s vs → ReadsOff w p text r a pa
+    → ReadsOff w p other t b pb → (surfacedSays r ≡ surfacedSays t) × (a ≡ b) × (pa ≡ pb)
+read-said {w} {a} {b} {text} {other} {p} {pa} {pb} {r} {t} s us vs e f x y =
+    let g = go (ℕ-discrete (roomRefusal (length w) (length p) s) 0) in (
+      x .says ∙ (ap (readAnswer (length w) (length p)) e
+          ∙ (answer-said (length w) (length p) s us vs ∙ sym (y .says ∙ ap (readAnswer (length w) (length p)) f))),
+      g .0,
+      g .1,
+    )
+  where
+    go : Dec (roomRefusal (length w) (length p) s ≡ 0) → (a ≡ b) × (pa ≡ pb)
+    go (yes z) = left-alone (x .left s us e z) (y .left s vs f z)
+    go (no n) = (x .kept s us e n .0 ∙ sym (y .kept s vs f n .0), x .kept s us e n .1 ∙ sym (y .kept s vs f n .1))
 
 -- of well-formed memory: what is written twice is the same text
 pub write-alone : {w o a b : List ℕ} {p : List ℤ} {r t : Written} {m : Map} → Wf w m → WritesOff w p o r a → WritesOff w p o t b

@@ -1,4 +1,5 @@
--- Where the live cells are 0, 1, 2 and so on up to the capacity, as after a read, the renumbered map is the map.
+-- Where the live cells are 0, 1, 2 and so on up to the capacity, as after a read, the renumbered map is the map with licence 0 everywhere; it is the
+-- map itself where no cell has a licence.
 use mathlib.Core.Path.{_≡_, refl, sym, ap, _∙_, fun-ext}
 use mathlib.Core.Bool.{Bool, true, cond, not}
 use mathlib.Core.List.{List, [], _∷_, _++_}
@@ -16,15 +17,15 @@ use Rattle.lists.proofs.Bools.{not-true-false}
 use Rattle.numbers.specs.Editions.{firstEdition}
 use Rattle.numbers.specs.Sizes.{capsUnder}
 use Rattle.numbers.specs.declared.Caps.{Caps}
-use Rattle.map.specs.Cells.{Body, Map, live}
+use Rattle.map.specs.Cells.{Body, licensedBody, Map, noCell, live}
 use Rattle.map.specs.Sound.{Sound}
 use Rattle.off.specs.Words.{Word}
 use Rattle.off.specs.Reading.{Got, Surface, reading}
 use Rattle.off.proofs.Round.{Face}
 use Rattle.surfaces.specs.ReadsOff.{capsOf, outcome, ReadsOff}
 use Rattle.surfaces.specs.declared.Surfaced.the-variants as Surfaced′
-use Rattle.surface_stories.specs.Renumbered.{renumbered}
-use Rattle.surface_stories.proofs.Made.{each-at, face-live}
+use Rattle.surface_stories.specs.Renumbered.{unlicensed, renumbered}
+use Rattle.surface_stories.proofs.Made.{faceBody, each-at, face-live}
 use Rattle.surface_stories.proofs.Again.{told, made, outcome-caps}
 use Rattle.surface_stories.proofs.Turned.{accepted}
 use Rattle.surface_stories.proofs.Numbered.{old, cells-count, old-behind, behind-none, at-old}
@@ -55,8 +56,14 @@ caps-parts : (m : Map) → renumbered m .caps ≡ capsUnder firstEdition (m .cap
 unfolding renumbered
 caps-parts m = refl
 
-pub renumbered-same : (m : Map) → Sound m → m .caps .edition ≡ firstEdition → ((k : ℕ) → k < m .caps .cells → live m k ≡ true) → renumbered m ≡ m
-renumbered-same m s first all = ap (λ (c : Caps). mapWith c (renumbered m .at)) caps ∙ ap (mapWith (m .caps)) (fun-ext at)
+-- under a number that is not below the capacity stands no cell
+behind-cells : (m : Map) → Sound m → (k : ℕ) → (k < m .caps .cells → ⊥) → m .at k ≡ noCell
+behind-cells m s k f = s .dead k (not-true-false (live m k) (λ e. f (s .below k e)))
+
+-- the same cells with licence 0
+pub renumbered-unlicensed : (m : Map) → Sound m → m .caps .edition ≡ firstEdition → ((k : ℕ) → k < m .caps .cells → live m k ≡ true)
+    → renumbered m ≡ mapWith (m .caps) (λ k. unlicensed (m .at k))
+renumbered-unlicensed m s first all = ap (λ (c : Caps). mapWith c (renumbered m .at)) caps ∙ ap (mapWith (m .caps)) (fun-ext at)
   where
     count : renumbered m .caps .cells ≡ m .caps .cells
     count = cells-count m ∙ all-count (live m) (m .caps .cells) all
@@ -66,16 +73,30 @@ renumbered-same m s first all = ap (λ (c : Caps). mapWith c (renumbered m .at))
         caps-parts m ∙ (ap (λ (n : ℕ). capsUnder firstEdition (m .caps .marks) n) count
         ∙ ap (λ (e : ℕ). capsUnder e (m .caps .marks) (m .caps .cells)) (sym first))
 
-    at : (k : ℕ) → renumbered m .at k ≡ m .at k
-    at k = at-old m s k ∙ go (decLt k (m .caps .cells))
+    at : (k : ℕ) → renumbered m .at k ≡ unlicensed (m .at k)
+    at k = at-old m s k ∙ ap unlicensed (go (decLt k (m .caps .cells)))
       where
         go : Dec (k < m .caps .cells) → m .at (old m k) ≡ m .at k
         go (yes h) = ap (m .at) (all-places (live m) (m .caps .cells) all k (m .caps .cells) h)
         go (no f) =
             ap (m .at) (old-behind m k (omega (arith, all-count (live m) (m .caps .cells) all)))
-            ∙ (behind-none m s ∙ sym (s .dead k (not-true-false (live m k) (λ e. f (s .below k e)))))
+            ∙ (behind-none m s ∙ sym (behind-cells m s k f))
 
--- so after a read: "exactly the same where the surface was itself read from OFF"
+no-licence : (x : Body) → x .licence ≡ 0 → unlicensed x ≡ x
+no-licence x e = ap (λ (n : ℕ). licensedBody (x .code) n (x .marks)) (sym e)
+
+-- and the map itself where no cell has a licence
+pub renumbered-same : (m : Map) → Sound m → m .caps .edition ≡ firstEdition → ((k : ℕ) → k < m .caps .cells → live m k ≡ true)
+    → ((k : ℕ) → k < m .caps .cells → m .at k .licence ≡ 0) → renumbered m ≡ m
+unfolding noCell
+renumbered-same m s first all none =
+    renumbered-unlicensed m s first all ∙ ap (mapWith (m .caps)) (fun-ext (λ k. no-licence (m .at k) (at k (decLt k (m .caps .cells)))))
+  where
+    at : (k : ℕ) → Dec (k < m .caps .cells) → m .at k .licence ≡ 0
+    at k (yes h) = none k h
+    at k (no f) = ap (λ (b : Body). b .licence) (behind-cells m s k f)
+
+-- so after a read: "exactly the same where the surface was itself read from OFF", for its faces have licence 0
 pub read-gapless : (w : List ℕ) (positions : List ℤ) (text w′ : List ℕ) (positions′ : List ℤ)
     → ReadsOff w positions text Surfaced′.Accepted w′ positions′
     → (s : Surface) × (us : List Word) × (reading text ≡ Got s us) × (renumbered (outcome s .map) ≡ outcome s .map)
@@ -88,11 +109,12 @@ read-gapless w positions text w′ positions′ r =
     let caps : m .caps ≡ capsOf s = outcome-caps text s (a .behind) (a .reads) (a .built) in
     let t = told text s (a .behind) (a .reads) (a .built) in
     let d = made text s (a .behind) (a .reads) (a .built) in
+    let inside : (k : ℕ) → k < m .caps .cells → k < length (t .list) = λ k h. omega (arith, t .count, ap (λ (c : Caps). c .cells) caps, h) in
+    let at : (k : ℕ) → k < m .caps .cells → m .at k ≡ faceBody (getD (t .list) k []) =
+    λ k h. let from : k ≡ 0 + k = omega arith in ap (m .at) from ∙ d .here k (inside k h) in
     let all : (k : ℕ) → k < m .caps .cells → not (eqb (m .at k .code) 0) ≡ true =
     λ k h.
-    let inside : k < length (t .list) = omega (arith, t .count, ap (λ (c : Caps). c .cells) caps, h) in
-    let from : k ≡ 0 + k = omega arith in
-    ap (λ (i : ℕ). not (eqb (m .at i .code) 0)) from
-    ∙ (ap (λ (b : Body). not (eqb (b .code) 0)) (d .here k inside)
-    ∙ face-live (getD (t .list) k []) (each-at Face (t .list) (t .each) k inside)) in
-    (s, a .behind, a .reads, renumbered-same m (left .wf .sound) (ap (λ (c : Caps). c .edition) caps) all)
+    ap (λ (b : Body). not (eqb (b .code) 0)) (at k h)
+    ∙ face-live (getD (t .list) k []) (each-at Face (t .list) (t .each) k (inside k h)) in
+    let none : (k : ℕ) → k < m .caps .cells → m .at k .licence ≡ 0 = λ k h. ap (λ (b : Body). b .licence) (at k h) in
+    (s, a .behind, a .reads, renumbered-same m (left .wf .sound) (ap (λ (c : Caps). c .edition) caps) all none)

@@ -1,4 +1,5 @@
--- Two calls: a surface written, then read. Its cells come back in their order, under the numbers 0, 1, 2 and so on, with the same positions.
+-- Two calls: a surface written, then read. Its cells come back in their order, under the numbers 0, 1, 2 and so on, with licence 0 and the same
+-- positions.
 use mathlib.Core.Path.{_≡_, refl, sym, ap, subst, _∙_}
 use mathlib.Core.Bool.{Bool, true, false}
 use mathlib.Core.List.{List, [], _++_}
@@ -132,9 +133,9 @@ module _ (w : List ℕ) (m : Map) (wf : Wf w m) where
               metres = left .metres ∙ (kept ∙ ap (λ (k : ℕ). take (3 * m .caps .marks) positions ++ drop k metres) size);
             }
 
--- Reading what we write gives back the same cells and positions, renumbered 0, 1, 2 where numbers had gaps: of any well-formed memory and any
--- positions of 16 bits, the text that an accepted write leaves, read into memory and positions with room for it, is accepted and leaves the
--- renumbered map
+-- Reading what we write gives back the same cells and positions, renumbered 0, 1, 2 where numbers had gaps and without licences: of any well-formed
+-- memory and any positions of 16 bits, the text that an accepted write leaves, read into memory and positions with room for it, is accepted and
+-- leaves the renumbered map
 pub gaps-closed : (w : List ℕ) (m : Map) → Wf w m → (positions : List ℤ) → Each (SFits w16) (take (3 * m .caps .marks) positions)
     → (o o′ : List ℕ) (n : ℕ) → WritesOff w positions o (Written′.Length n) o′
     → (v : List ℕ) (metres : List ℤ) → room (m .caps .marks) (length (liveCells m)) ≤ length v → 3 * m .caps .marks ≤ length metres

@@ -34,7 +34,7 @@ pub record MadeOf (m : Map) (c : ℕ) (fs : List (List ℕ)) (m′ : Map) : Type
 
 turn-not : (place : ℕ) (m : Map) (c t : ℕ) (rest : List ℕ) (n : ℕ) → 1 ≤ n
     → (editAnswer m (Insert c (bodyOf t (take (shape t .marks) rest))) .refusal ≡ 0 → ⊥)
-    → buildFrom n place m (c ∷ t ∷ rest) .refusal ≡ editAnswer m (Insert c (bodyOf t (take (shape t .marks) rest))) .refusal
+    → buildFrom n place m (c ∷ t ∷ 0 ∷ rest) .refusal ≡ editAnswer m (Insert c (bodyOf t (take (shape t .marks) rest))) .refusal
 unfolding buildFrom
 turn-not place m c t rest zero h f = absurd (omega arith)
 turn-not place m c t rest (suc n) h f = rw (buildFrom, ne-eqb (editAnswer m (Insert c (bodyOf t (take (shape t .marks) rest))) .refusal) 0 f)
@@ -80,15 +80,15 @@ module _ (x others : List ℕ) (c fuel place : ℕ) (m : Map) (f : Face x) (some
   left : drop (shape t .marks) rest ≡ others
   left = drop-at x others (shape t .marks) (sym count)
 
-  face-turn : buildFrom fuel place m (c ∷ t ∷ rest) .refusal ≡ 0
-      → buildFrom fuel place m (c ∷ t ∷ rest) ≡ buildFrom (fuel - 1) (place + 1) (changed m (Insert c (faceBody x))) others
+  face-turn : buildFrom fuel place m (c ∷ t ∷ 0 ∷ rest) .refusal ≡ 0
+      → buildFrom fuel place m (c ∷ t ∷ 0 ∷ rest) ≡ buildFrom (fuel - 1) (place + 1) (changed m (Insert c (faceBody x))) others
   face-turn e = go (ℕ-discrete (editAnswer m (Insert c (bodyOf t (take (shape t .marks) rest))) .refusal) 0)
     where
       go : Dec (editAnswer m (Insert c (bodyOf t (take (shape t .marks) rest))) .refusal ≡ 0)
-          → buildFrom fuel place m (c ∷ t ∷ rest) ≡ buildFrom (fuel - 1) (place + 1) (changed m (Insert c (faceBody x))) others
+          → buildFrom fuel place m (c ∷ t ∷ 0 ∷ rest) ≡ buildFrom (fuel - 1) (place + 1) (changed m (Insert c (faceBody x))) others
       go (no n) = absurd (n (sym (turn-not place m c t rest fuel some n) ∙ e))
       go (yes ok) =
-          turn-made place m c t rest fuel some ok
+          turn-made place m c t 0 rest fuel some ok
           ∙ (ap (λ (l : List ℕ). buildFrom (fuel - 1) (place + 1) (changed m (Insert c (bodyOf t l))) (drop (shape t .marks) rest)) named
           ∙ ap (buildFrom (fuel - 1) (place + 1) (changed m (Insert c (faceBody x)))) left)
 

@@ -19,7 +19,7 @@ use Rattle.map.specs.Cells.{Body, Map, Live, noCell, live, liveAt, liveCells, d
 use Rattle.map.specs.Stars.{holders}
 use Rattle.map.specs.Sound.{Sound, TwoSolids}
 use Rattle.surfaces_out.proofs.Listed.{map-fused}
-use Rattle.surface_stories.specs.Renumbered.{renumbered}
+use Rattle.surface_stories.specs.Renumbered.{unlicensed, renumbered}
 
 -- what is read where something stands does not depend on the default
 pub getD-any : (l : List ℕ) (k d e : ℕ) → k < length l → getD l k d ≡ getD l k e
@@ -76,13 +76,13 @@ module _ (m : Map) (s : Sound m) where
   pub behind-none : m .at (m .caps .cells) ≡ noCell
   behind-none = s .dead (m .caps .cells) behind-dead
 
-  -- each cell is what stood under its old number
-  pub at-old : (k : ℕ) → renumbered m .at k ≡ m .at (old m k)
-  unfolding renumbered liveCells
+  -- each cell is what stood under its old number, with licence 0
+  pub at-old : (k : ℕ) → renumbered m .at k ≡ unlicensed (m .at (old m k))
+  unfolding renumbered liveCells noCell
   at-old k =
-      ap (λ (b : Body). getD (map (λ (x : Live). x .body) (map (liveAt m) (alive m))) k b) (sym behind-none)
-      ∙ (ap (λ (l : List Body). getD l k (m .at (m .caps .cells))) (map-fused (liveAt m) (λ (x : Live). x .body) (alive m))
-      ∙ List·getD-map (m .at) (alive m) k (m .caps .cells))
+      ap (λ (b : Body). getD (map (λ (x : Live). unlicensed (x .body)) (map (liveAt m) (alive m))) k (unlicensed b)) (sym behind-none)
+      ∙ (ap (λ (l : List Body). getD l k (unlicensed (m .at (m .caps .cells)))) (map-fused (liveAt m) (λ (x : Live). unlicensed (x .body)) (alive m))
+      ∙ List·getD-map (λ c. unlicensed (m .at c)) (alive m) k (m .caps .cells))
 
   live-old : (k : ℕ) → live (renumbered m) k ≡ live m (old m k)
   unfolding live
@@ -126,9 +126,10 @@ module _ (m : Map) (s : Sound m) where
       omega (arith, distinct-fewer (map (old m) l) (select (holds m v) (m .caps .cells)) other inside, length-map l (old m))
 
   pub sound-renumbered : Sound (renumbered m)
+  unfolding noCell
   sound-renumbered = record {
     below = λ c e. omega (arith, live-below c e, cells-count m);
-    dead = λ c e. at-old c ∙ s .dead (old m c) (sym (live-old c) ∙ e);
+    dead = λ c e. at-old c ∙ ap unlicensed (s .dead (old m c) (sym (live-old c) ∙ e));
     typed = λ c e. omega (arith, s .typed (old m c) (sym (live-old c) ∙ e), dimension-old c);
     fitting = λ c. subst (λ (b : Body). length (b .marks) ≡ shape (b .code) .marks) (sym (at-old c)) (s .fitting (old m c));
     inside = λ v c e. omega (arith, s .inside v (old m c) (sym (holds-old v c) ∙ e), marks-same m);

@@ -27,30 +27,30 @@ use Rattle.off.proofs.Meant.{Each, none, more}
 use Rattle.off.proofs.Round.{Face}
 use Rattle.surfaces_out.specs.WritesOff.{isFace, otherCell, facesOf}
 use Rattle.surfaces_out.proofs.Listed.{map-last, map-fused}
-use Rattle.surface_stories.specs.Renumbered.{renumbered}
+use Rattle.surface_stories.specs.Renumbered.{unlicensed, renumbered}
 use Rattle.surface_stories.proofs.Made.{faceBody, MadeOf, made-list}
 use Rattle.surface_stories.proofs.Numbered.{getD-any, alive, old, live-count, cells-count, behind-none, at-old, live-inside, two-renumbered, sound-renumbered}
 
 -- the records of one face more, and the words of a build of one cell more
 records-last : (c : ℕ) (a : List (List ℕ)) (x : List ℕ)
-    → recordsFrom c (a ++ (x ∷ [])) ≡ recordsFrom c a ++ ((c + length a) ∷ faceCode (length x) ∷ x)
+    → recordsFrom c (a ++ (x ∷ [])) ≡ recordsFrom c a ++ ((c + length a) ∷ faceCode (length x) ∷ 0 ∷ x)
 unfolding recordsFrom
 records-last c [] x =
     let e : c ≡ c + 0 = omega arith in
-    ap (λ (l : List ℕ). c ∷ faceCode (length x) ∷ l) (append-nil x) ∙ ap (λ (k : ℕ). k ∷ faceCode (length x) ∷ x) e
+    ap (λ (l : List ℕ). c ∷ faceCode (length x) ∷ 0 ∷ l) (append-nil x) ∙ ap (λ (k : ℕ). k ∷ faceCode (length x) ∷ 0 ∷ x) e
 records-last c (y ∷ a) x =
     let e : suc c + length a ≡ c + suc (length a) = omega arith in
-    ap (λ (l : List ℕ). (c ∷ faceCode (length y) ∷ y) ++ l) (records-last (suc c) a x)
-    ∙ (sym (append-assoc (c ∷ faceCode (length y) ∷ y) (recordsFrom (suc c) a) ((suc c + length a) ∷ faceCode (length x) ∷ x))
-    ∙ ap (λ (k : ℕ). ((c ∷ faceCode (length y) ∷ y) ++ recordsFrom (suc c) a) ++ (k ∷ faceCode (length x) ∷ x)) e)
+    ap (λ (l : List ℕ). (c ∷ faceCode (length y) ∷ 0 ∷ y) ++ l) (records-last (suc c) a x)
+    ∙ (sym (append-assoc (c ∷ faceCode (length y) ∷ 0 ∷ y) (recordsFrom (suc c) a) ((suc c + length a) ∷ faceCode (length x) ∷ 0 ∷ x))
+    ∙ ap (λ (k : ℕ). ((c ∷ faceCode (length y) ∷ 0 ∷ y) ++ recordsFrom (suc c) a) ++ (k ∷ faceCode (length x) ∷ 0 ∷ x)) e)
 
-words-last : (a : List Live) (x : Live) → buildWords (a ++ (x ∷ [])) ≡ buildWords a ++ (x .number ∷ x .body .code ∷ x .body .marks)
+words-last : (a : List Live) (x : Live) → buildWords (a ++ (x ∷ [])) ≡ buildWords a ++ (x .number ∷ x .body .code ∷ x .body .licence ∷ x .body .marks)
 unfolding buildWords
-words-last [] x = ap (λ (l : List ℕ). x .number ∷ x .body .code ∷ l) (append-nil (x .body .marks))
+words-last [] x = ap (λ (l : List ℕ). x .number ∷ x .body .code ∷ x .body .licence ∷ l) (append-nil (x .body .marks))
 words-last (y ∷ a) x =
-    ap (λ (l : List ℕ). y .number ∷ y .body .code ∷ (y .body .marks ++ l)) (words-last a x)
-    ∙ ap (λ (l : List ℕ). y .number ∷ y .body .code ∷ l)
-    (sym (append-assoc (y .body .marks) (buildWords a) (x .number ∷ x .body .code ∷ x .body .marks)))
+    ap (λ (l : List ℕ). y .number ∷ y .body .code ∷ y .body .licence ∷ (y .body .marks ++ l)) (words-last a x)
+    ∙ ap (λ (l : List ℕ). y .number ∷ y .body .code ∷ y .body .licence ∷ l)
+    (sym (append-assoc (y .body .marks) (buildWords a) (x .number ∷ x .body .code ∷ x .body .licence ∷ x .body .marks)))
 
 -- where the faces stand under 0, 1, 2 and so on, the words of a build are their records
 faces-words : (r : Map) (fs : List (List ℕ)) (n : ℕ) → n ≤ length fs → ((k : ℕ) → k < n → live r k ≡ true)
@@ -64,10 +64,10 @@ faces-words r fs (suc n) h t e =
     ap (λ (b : Bool). buildWords (map (liveAt r) (cond b (select (live r) n ++ (n ∷ [])) (select (live r) n)))) (t n (omega arith))
     ∙ (ap buildWords (map-last (liveAt r) (select (live r) n) n)
     ∙ (words-last (map (liveAt r) (select (live r) n)) (liveAt r n)
-    ∙ (ap (λ (l : List ℕ). l ++ (n ∷ r .at n .code ∷ r .at n .marks))
+    ∙ (ap (λ (l : List ℕ). l ++ (n ∷ r .at n .code ∷ r .at n .licence ∷ r .at n .marks))
     (faces-words r fs n (omega arith) (λ k i. t k (omega arith)) (λ k i. e k (omega arith)))
-    ∙ (ap (λ (b : Body). recordsFrom 0 (take n fs) ++ (n ∷ b .code ∷ b .marks)) (e n (omega arith))
-    ∙ (ap (λ (k : ℕ). recordsFrom 0 (take n fs) ++ (k ∷ faceCode (length x) ∷ x)) (sym size)
+    ∙ (ap (λ (b : Body). recordsFrom 0 (take n fs) ++ (n ∷ b .code ∷ b .licence ∷ b .marks)) (e n (omega arith))
+    ∙ (ap (λ (k : ℕ). recordsFrom 0 (take n fs) ++ (k ∷ faceCode (length x) ∷ 0 ∷ x)) (sym size)
     ∙ (sym (records-last 0 (take n fs) x) ∙ ap (recordsFrom 0) (sym (take-suc fs n [] (omega arith)))))))))
 
 -- a triangle has 3 marks and a quad 4
@@ -119,7 +119,7 @@ module _ (m : Map) (s : Sound m) (faces : otherCell m ≡ false) where
           at-any (λ (x : Live). not (isFace (x .body .code))) (liveCells m) (liveAt m (m .caps .cells)) k (omega (arith, live-count m))
           (ap (λ (x : Live). not (isFace (x .body .code))) (listed k) ∙ ap not f)
 
-  face-body : (c : ℕ) → isFace (m .at c .code) ≡ true → m .at c ≡ faceBody (m .at c .marks)
+  face-body : (c : ℕ) → isFace (m .at c .code) ≡ true → unlicensed (m .at c) ≡ faceBody (m .at c .marks)
   unfolding faceCode
   face-body c f =
       let t = face-sized (m .at c .code) f in

@@ -130,8 +130,8 @@ faces-told end (suc n) c r ws us e =
       list = parts .marks ∷ rest .list;
       records =
           first .is ∙ (ap (λ (l : List ℕ). l ++ first .others) (parts .is)
-          ∙ (ap (λ (k : ℕ). (c ∷ faceCode k ∷ parts .marks) ++ first .others) (sym size)
-          ∙ ap (λ (l : List ℕ). (c ∷ faceCode (length (parts .marks)) ∷ parts .marks) ++ l) (rest .records)));
+          ∙ (ap (λ (k : ℕ). (c ∷ faceCode k ∷ 0 ∷ parts .marks) ++ first .others) (sym size)
+          ∙ ap (λ (l : List ℕ). (c ∷ faceCode (length (parts .marks)) ∷ 0 ∷ parts .marks) ++ l) (rest .records)));
       count = ap suc (rest .count);
       each = more one (rest .each);
     }

@@ -20,11 +20,13 @@ use Rattle.build.specs.Builds.{placed}
 use Rattle.off.specs.Words.{Word}
 use Rattle.off.specs.Reading.{Read, Got, Stop, Surface, reading}
 use Rattle.surfaces.specs.ReadsOff.{broken, surfacedSays, capsOf, roomRefusal, outcome, surfaceAnswer, readAnswer, positionsLeft, SurfaceLeft, ReadsOff}
+use Rattle.surfaces.specs.declared.Surfaced.{Surfaced}
 use Rattle.surfaces.specs.declared.Surfaced.the-variants as Surfaced′
 use Rattle.surfaces.proofs.Facing.{many-length}
 use Rattle.surfaces_out.specs.WritesOff.{otherCell, offText, writeChecks, writeAnswer, writtenSays, textLeft, WritesOff}
 use Rattle.surfaces_out.specs.declared.Written.the-variants as Written′
 use Rattle.off.specs.Numbers.{coordinateOf}
+use Rattle.surface_stories.proofs.Alone.{read-said}
 use Rattle.surface_stories.proofs.Again.{Standing, stands, outcome-caps, read-again}
 
 -- an accepted read: its text is of the form, there is room, and the build is accepted
@@ -70,8 +72,7 @@ unfolding writtenSays writeAnswer listAnswer writeChecks
 written m positions o n e =
     all-pass (ltb (length positions) (3 * m .caps .marks)) (otherCell m) (ltb (length o) (length (offText m positions))) n (length (offText m positions)) e
 
--- "An OFF surface read, written as OFF by us and read again gives the same cells and positions.": the text that is written says the same surface,
--- and what a read answers and leaves follows from what its text says alone (ReadsOff)
+-- "An OFF surface read, written as OFF by us and read again gives the same cells and positions.": the text that is written says the same surface
 pub turned : (w : List ℕ) (positions : List ℤ) (text w′ : List ℕ) (positions′ : List ℤ) → ReadsOff w positions text Surfaced′.Accepted w′ positions′
     → (o o′ : List ℕ) (n : ℕ) → WritesOff w′ positions′ o (Written′.Length n) o′
     → (s : Surface) × (us : List Word) × (reading text ≡ Got s us) × (reading (take n o′) ≡ Got s [])
@@ -94,3 +95,12 @@ turned w positions text w′ positions′ r o o′ n q =
     let wrote : o′ ≡ offText m positions′ ++ drop (length (offText m positions′)) o = answers .1 ∙ rw (done .0) in
     let bytes : take n o′ ≡ offText m positions′ = ap (take n) wrote ∙ take-at (offText m positions′) (drop (length (offText m positions′)) o) n (sym (done .1)) in
     (s, a .behind, a .reads, ap reading bytes ∙ read-again text s (a .behind) (a .reads) (a .built) marks cells positions′ first enough)
+
+-- so it is read with the same answer, and leaves the same memory word for word and the same positions
+pub turned-same : (w : List ℕ) (positions : List ℤ) (text w′ : List ℕ) (positions′ : List ℤ) → ReadsOff w positions text Surfaced′.Accepted w′ positions′
+    → (o o′ : List ℕ) (n : ℕ) → WritesOff w′ positions′ o (Written′.Length n) o′
+    → (r : Surfaced) (w″ : List ℕ) (positions″ : List ℤ) → ReadsOff w positions (take n o′) r w″ positions″
+    → (surfacedSays r ≡ surfacedSays Surfaced′.Accepted) × (w″ ≡ w′) × (positions″ ≡ positions′)
+turned-same w positions text w′ positions′ x o o′ n q r w″ positions″ y =
+    let t = turned w positions text w′ positions′ x o o′ n q in
+    read-said (t .0) [] (t .1) (t .3) (t .2) y x

@@ -7,17 +7,21 @@ use lib.IntN.{ℤ}
 use Rattle.numbers.specs.Room.{room}
 use Rattle.numbers.specs.Sizes.{capacities}
 use Rattle.words.specs.Words.{Only}
-use Rattle.map.specs.Cells.{Live, Map, noCell, liveCells}
+use Rattle.map.specs.Cells.{Body, bodyOf, Live, Map, noCell, liveCells}
 use Rattle.picture.specs.Picture.{Wf}
 use Rattle.surfaces.specs.declared.Surfaced.{Surfaced}
 use Rattle.surfaces.specs.declared.Surfaced.the-variants.{Accepted}
 
--- the live cells in their order under the numbers 0, 1, 2 and so on, with their types and marks: the capacity of marks is the same, that of cells
--- is the count of live cells, and "request 7's read mean[s] edition 1", whatever the edition was
+-- the cell without its licence, for which OFF has no place: "for a face read from OFF, means 0"
+abbrev pub unlicensed : Body → Body
+unlicensed x = bodyOf (x .code) (x .marks)
+
+-- the live cells in their order under the numbers 0, 1, 2 and so on, with their types and marks and licence 0: the capacity of marks is the same,
+-- that of cells is the count of live cells, and "request 7's read mean[s] edition 1", whatever the edition was
 unfoldable pub renumbered : Map → Map
 renumbered m = record {
   caps = capacities (m .caps .marks) (length (liveCells m));
-  at = λ k. getD (map (λ (x : Live). x .body) (liveCells m)) k noCell;
+  at = λ k. getD (map (λ (x : Live). unlicensed (x .body)) (liveCells m)) k noCell;
 }
 
 -- what a read of the written text answers and leaves

@@ -62,9 +62,9 @@ unfolding faces
 faces-nothing end c r ws us e = cc
 
 -- a record of a face among the others
-module _ (records : List ℕ) (i c size : ℕ) (marks others : List ℕ) (e : drop i records ≡ (c ∷ faceCode size ∷ marks) ++ others) (n : length marks ≡ size)
+module _ (records : List ℕ) (i c size : ℕ) (marks others : List ℕ) (e : drop i records ≡ (c ∷ faceCode size ∷ 0 ∷ marks) ++ others) (n : length marks ≡ size)
     (least : 3 ≤ size) (most : size ≤ 4) where
-  long : length records ≡ i + (2 + size) + length others
+  long : length records ≡ i + (3 + size) + length others
   long = omega (arith, length-drop i records, ap length e, length-append marks others)
 
   pub record-there : i < length records
@@ -76,30 +76,33 @@ module _ (records : List ℕ) (i c size : ℕ) (marks others : List ℕ) (e : dr
   typed : faceCode size ≡ getD records (i + 1) 0
   typed = ap (λ (l : List ℕ). getD l 1 0) (sym e) ∙ getD-drop i records 1 0
 
-  wide : width records i ≡ 2 + size
-  unfolding width
-  wide = ap (λ (t : ℕ). 2 + shape t .marks) (sym typed) ∙ ap (λ (k : ℕ). 2 + k) (face-marks size least most)
+  licensed : 0 ≡ getD records (i + 2) 0
+  licensed = ap (λ (l : List ℕ). getD l 2 0) (sym e) ∙ getD-drop i records 2 0
 
-  pub record-ends : i + (2 + size) ≡ min (i + width records i) (length records)
+  wide : width records i ≡ 3 + size
+  unfolding width
+  wide = ap (λ (t : ℕ). 3 + shape t .marks) (sym typed) ∙ ap (λ (k : ℕ). 3 + k) (face-marks size least most)
+
+  pub record-ends : i + (3 + size) ≡ min (i + width records i) (length records)
   record-ends = rw wide (omega (arith, long))
 
-  behind-type : drop (i + 2) records ≡ marks ++ others
-  behind-type = sym (drop-drop 2 i records) ∙ ap (drop 2) e
+  behind-licence : drop (i + 3) records ≡ marks ++ others
+  behind-licence = sym (drop-drop 3 i records) ∙ ap (drop 3) e
 
-  named : marks ≡ partOf records (i + 2) (i + (2 + size) - 2 - i)
+  named : marks ≡ partOf records (i + 3) (i + (3 + size) - 3 - i)
   named =
-      let k : i + (2 + size) - 2 - i ≡ size = omega arith in
-      sym (ap (partOf records (i + 2)) k
-      ∙ (part-fits records (i + 2) size (omega (arith, long)) ∙ (ap (take size) behind-type ∙ take-at marks others size n)))
+      let k : i + (3 + size) - 3 - i ≡ size = omega arith in
+      sym (ap (partOf records (i + 3)) k
+      ∙ (part-fits records (i + 3) size (omega (arith, long)) ∙ (ap (take size) behind-licence ∙ take-at marks others size n)))
 
-  pub record-left : drop (i + (2 + size)) records ≡ others
+  pub record-left : drop (i + (3 + size)) records ≡ others
   record-left =
-      sym (drop-drop (2 + size) i records)
-      ∙ (ap (drop (2 + size)) e ∙ drop-at (c ∷ faceCode size ∷ marks) others (2 + size) (omega (arith, n)))
+      sym (drop-drop (3 + size) i records)
+      ∙ (ap (drop (3 + size)) e ∙ drop-at (c ∷ faceCode size ∷ 0 ∷ marks) others (3 + size) (omega (arith, n)))
 
-  pub record-inserted : (w : List ℕ) (v : Verdict) (w′ : List ℕ) → Edited w (Insert c (bodyOf (faceCode size) marks)) v w′ → Recorded w records i (i + (2 + size)) v w′
+  pub record-inserted : (w : List ℕ) (v : Verdict) (w′ : List ℕ) → Edited w (Insert c (bodyOf (faceCode size) marks)) v w′ → Recorded w records i (i + (3 + size)) v w′
   record-inserted w v w′ d =
-      record-made w records i (i + (2 + size)) c (faceCode size) (i + 1) (i + 2) (i + (2 + size) - 2 - i) marks (omega arith) number typed refl named refl refl v w′ d
+      record-made w records i (i + (3 + size)) c (faceCode size) (i + 1) 0 (i + 2) (i + 3) (i + (3 + size) - 3 - i) marks (omega arith) number typed refl licensed refl named refl refl v w′ d
 
 -- the faces up to a cursor, since the format
 pub record FacesGoing (w₁ text : List ℕ) (caps : Caps) (n from at c : ℕ) (w : List ℕ) : Type 0 where
@@ -150,15 +153,15 @@ module _ (text : List ℕ) (caps : Caps) (n from : ℕ) where
           count : length (parts .marks) ≡ size
           count = many-length numberOf (length text) size (parts .marks) (parts .behind) (first .behind) (parts .read)
 
-          words : drop i records ≡ (c ∷ faceCode size ∷ parts .marks) ++ first .others
+          words : drop i records ≡ (c ∷ faceCode size ∷ 0 ∷ parts .marks) ++ first .others
           words = first .is ∙ ap (λ (l : List ℕ). l ++ first .others) (parts .is)
 
-          same : (u : Verdict) → Edited w (Insert c (bodyOf (getD (first .record′) 1 0) (drop 2 (first .record′)))) u w′
+          same : (u : Verdict) → Edited w (Insert c (bodyOf (getD (first .record′) 1 0) (drop 3 (first .record′)))) u w′
               → Edited w (Insert c (bodyOf (faceCode size) (parts .marks))) u w′
-          same u d = subst (λ (l : List ℕ). Edited w (Insert c (bodyOf (getD l 1 0) (drop 2 l))) u w′) (parts .is) d
+          same u d = subst (λ (l : List ℕ). Edited w (Insert c (bodyOf (getD l 1 0) (drop 3 l))) u w′) (parts .is) d
 
-          recorded : (u : Verdict) → Edited w (Insert c (bodyOf (getD (first .record′) 1 0) (drop 2 (first .record′)))) u w′
-              → Recorded w records i (i + (2 + size)) u w′
+          recorded : (u : Verdict) → Edited w (Insert c (bodyOf (getD (first .record′) 1 0) (drop 3 (first .record′)))) u w′
+              → Recorded w records i (i + (3 + size)) u w′
           recorded u d = record-inserted records i c size (parts .marks) (first .others) words count (few .0) (few .1) w u w′ (same u d)
 
         -- a face refused, and the memory formatted again
@@ -169,7 +172,7 @@ module _ (text : List ℕ) (caps : Caps) (n from : ℕ) where
             let d = did .refused (first records e .record′) (first records e .behind) (first records e .here) why q in
             let there = record-there records (i records e) c (size records e) (parts records e .marks) (first records e .others) (words records e) (count records e) (few records e .0) (few records e .1) in
             let ends = record-ends records (i records e) c (size records e) (parts records e .marks) (first records e .others) (words records e) (count records e) (few records e .0) (few records e .1) in
-            let s = going-refused caps records w₁ (i records e) c w (g .going records e .1) there (i records e + (2 + size records e)) ends (Refused why) w′ (recorded records e (Refused why) d) why refl in
+            let s = going-refused caps records w₁ (i records e) c w (g .going records e .1) there (i records e + (3 + size records e)) ends (Refused why) w′ (recorded records e (Refused why) d) why refl in
             build-stopped caps records w₀ w₁ v f ok why c (s .0) w′ w″ (s .1) again ed mk cl second ee em ec place ep
 
         -- a face inserted
@@ -183,9 +186,9 @@ module _ (text : List ℕ) (caps : Caps) (n from : ℕ) where
               let ends = record-ends records (i records e) c (size records e) (parts records e .marks) (first records e .others) (words records e) (count records e) (few records e .0) (few records e .1) in
               let rest = record-left records (i records e) c (size records e) (parts records e .marks) (first records e .others) (words records e) (count records e) (few records e .0) (few records e .1) in
               let more : c′ ≡ suc c = ec ∙ add-one c in (
-                i records e + (2 + size records e),
-                going-next caps records w₁ (i records e) c w (g .going records e .1) there (i records e + (2 + size records e)) ends Accepted w′ (recorded records e Accepted (d .0)) refl
-                    (i records e + (2 + size records e)) c′ refl ec,
+                i records e + (3 + size records e),
+                going-next caps records w₁ (i records e) c w (g .going records e .1) there (i records e + (3 + size records e)) ends Accepted w′ (recorded records e Accepted (d .0)) refl
+                    (i records e + (3 + size records e)) c′ refl ec,
                 rw (more, rest, d .1) (first records e .after),
               );
         }

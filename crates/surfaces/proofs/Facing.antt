@@ -83,18 +83,18 @@ pub record Parts (end c : ℕ) (x : List ℕ) (ws us : List Word) : Type 0 where
   pub behind : List Word
   pub sized : one sizeOf end ws ≡ Got size behind
   pub read : many numberOf end size behind ≡ Got marks us
-  pub is : x ≡ c ∷ faceCode size ∷ marks
+  pub is : x ≡ c ∷ faceCode size ∷ 0 ∷ marks
 
 pub face-parts : (end c : ℕ) (x : List ℕ) (ws us : List Word) → face end c ws ≡ Got x us → Parts end c x ws us
 unfolding face _then_
 face-parts end c x ws us e = go (one sizeOf end ws) refl e
   where
     rest : (n : ℕ) (vs : List Word) → one sizeOf end ws ≡ Got n vs → (r : Read (List ℕ)) → many numberOf end n vs ≡ r
-        → (r then λ marks ws. Got (c ∷ faceCode n ∷ marks) ws) ≡ Got x us → Parts end c x ws us
+        → (r then λ marks ws. Got (c ∷ faceCode n ∷ 0 ∷ marks) ws) ≡ Got x us → Parts end c x ws us
     rest n vs h (Got l ys) q k = record { size = n; marks = l; behind = vs; sized = h; read = q ∙ ap (Got l) cc; is = cc }
     rest n vs h (Stop p) q k = let z : _≡_ {A = ℕ} 0 1 = cc in absurd (omega arith)
 
-    go : (r : Read ℕ) → one sizeOf end ws ≡ r → (r then λ size ws. many numberOf end size ws then λ marks ws. Got (c ∷ faceCode size ∷ marks) ws) ≡ Got x us
+    go : (r : Read ℕ) → one sizeOf end ws ≡ r → (r then λ size ws. many numberOf end size ws then λ marks ws. Got (c ∷ faceCode size ∷ 0 ∷ marks) ws) ≡ Got x us
         → Parts end c x ws us
     go (Got n vs) h k = rest n vs h (many numberOf end n vs) refl k
     go (Stop p) h k = let z : _≡_ {A = ℕ} 0 1 = cc in absurd (omega arith)
@@ -136,17 +136,17 @@ module _ (w text : List ℕ) (from c : ℕ) where
       few : n ≤ 4
       few = size-few (length text) n (left text from) (left text behind) e .1
 
-      named : marks ≡ drop 2 x
+      named : marks ≡ drop 3 x
       named =
           em ∙ (ap (λ (k : List ℕ). partOf k 0 n) (here .1)
           ∙ (marks-part out (parts .marks) n (many-length numberOf (length text) n (parts .marks) (left text behind) ws read) (omega (arith, few))
-          ∙ sym (ap (drop 2) (parts .is))))
+          ∙ sym (ap (drop 3) (parts .is))))
 
       typed : t ≡ getD x 1 0
       unfolding faceCode
       typed = et ∙ (ap (λ (k : ℕ). k - 1) (sym (alike .0)) ∙ sym (ap (λ (k : List ℕ). getD k 1 0) (parts .is)))
 
-      same : Edited w (Insert c (bodyOf (getD x 1 0) (drop 2 x))) v w′
+      same : Edited w (Insert c (bodyOf (getD x 1 0) (drop 3 x))) v w′
       same = rw (← typed, ← named) edited
 
     pub inserted-refused : (why : Refusal) → v ≡ Verdict′.Refused why → FaceInserted w text from c (Faced′.Refused why) w′

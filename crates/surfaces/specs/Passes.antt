@@ -28,10 +28,10 @@ abbrev pub PositionsRead : List ℕ → ℕ → ℕ → List ℤ → List ℤ �
 PositionsRead text from n out out′ =
     (l : List ℤ) (ws : List Word) → many coordinateOf (length text) n (left text from) ≡ Got l ws → out′ ≡ sets out 0 l
 
--- the face x inserted: its number, its type and its marks
+-- the face x inserted: its number, its type and its marks, without a licence
 pub record FaceInserted (w text : List ℕ) (from c : ℕ) (r : Faced.Faced) (w′ : List ℕ) : Type 0 where
   pub size : length w′ ≡ length w
   pub refused : (x : List ℕ) (ws : List Word) → face (length text) c (left text from) ≡ Got x ws → (why : Refusal) → r ≡ Faced′.Refused why
-      → Edited w (Insert c (bodyOf (getD x 1 0) (drop 2 x))) (Verdict′.Refused why) w′
+      → Edited w (Insert c (bodyOf (getD x 1 0) (drop 3 x))) (Verdict′.Refused why) w′
   pub made : (x : List ℕ) (ws : List Word) → face (length text) c (left text from) ≡ Got x ws → (at : Cursor) → r ≡ Faced′.Made at
-      → Edited w (Insert c (bodyOf (getD x 1 0) (drop 2 x))) Verdict′.Accepted w′ × (left text (at .at) ≡ ws)
+      → Edited w (Insert c (bodyOf (getD x 1 0) (drop 3 x))) Verdict′.Accepted w′ × (left text (at .at) ≡ ws)

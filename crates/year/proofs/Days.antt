@@ -24,7 +24,8 @@ use Rattle.year.specs.Calls.{OnDay, Folded}
 use Rattle.year.specs.Since as S
 use Rattle.year.specs.Since.{Since}
 use Rattle.journal.proofs.Both.{after-caps, kept-both}
-use Rattle.year.proofs.Replaying.{filed-both, filed-entries}
+use Rattle.year.proofs.Opened.{filed-both}
+use Rattle.year.proofs.Replaying.{filed-entries}
 
 -- every call keeps the relation
 pub since-kept : {m : Map} {past : List Dated} {fold : ℕ} {mesh j start : List ℕ} → Since m past fold mesh j start → Kept m past fold mesh j start

@@ -36,7 +36,8 @@ use Rattle.replay.proofs.Runs.{run-size}
 use Rattle.journal.specs.Kept.{Filed, both}
 use Rattle.year.specs.Calls.{Folded}
 use Rattle.journal.proofs.Both.{none-both, opened-both, opened-room, wf-head, after-caps}
-use Rattle.year.proofs.Replaying.{filed-both, filed-fold, filed-entries, filed-counted, filed-replayed, room-only}
+use Rattle.year.proofs.Opened.{filed-both, filed-fold}
+use Rattle.year.proofs.Replaying.{filed-entries, filed-counted, filed-replayed, room-only}
 
 -- a fold that is allowed
 pub record Allowed (ever fold last day : ℕ) : Type 0 where

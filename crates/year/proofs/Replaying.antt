@@ -4,7 +4,6 @@ use mathlib.Core.Bool.{Bool, true, false, cond}
 use mathlib.Core.List.{List, [], _∷_, _++_, map}
 use Prim.Native.Nat.{ℕ, suc, _+_, _-_, _<_, _≤_}
 use native.Mathlib.Omega.{arith}
-use borrow.Author.Tests.{lt-ltb, le-ltb}
 use lib.ListN.{length, take, drop, take-append-drop}
 use lib.Seq.{length-take-le}
 use Rattle.lists.proofs.Bools.{clash}
@@ -13,36 +12,31 @@ use Rattle.numbers.specs.declared.Caps.{Caps}
 use Rattle.words.specs.Words.{Only}
 use Rattle.words.proofs.Frame.{only-none}
 use Rattle.store.specs.Open.{roomIn, opened}
-use Rattle.store.specs.declared.Opened.the-variants.{Mesh, Nothing}
+use Rattle.store.specs.declared.Opened.the-variants.{Mesh}
 use Rattle.map.specs.Cells.{Map}
-use Rattle.map.specs.Answers.{_when_, answer}
 use Rattle.map.specs.History.{Edit, history}
-use Rattle.map.specs.Says.{given, refused, verdictSays}
+use Rattle.map.specs.Says.{verdictSays}
 use Rattle.map.specs.declared.Refusal.{Refusal}
-use Rattle.map.specs.declared.Refusal.the-variants.{NotMesh, MemoryShort, DayFolded}
+use Rattle.map.specs.declared.Refusal.the-variants.{NotMesh}
 use Rattle.map.specs.declared.Verdict.the-variants.{Accepted, Refused}
 use Rattle.picture.specs.Picture.{Wf}
+use Rattle.checks.specs.declared.Opening.{Opening}
+use Rattle.checks.specs.declared.Opening.the-variants as Opening′
 use Rattle.checks.proofs.Opens.{mesh-opened, wf-caps}
 use Rattle.mesh.specs.Run.{Run}
 use Rattle.mesh.proofs.Evening.{run-wf}
 use Rattle.edits.proofs.Cut.{roomOf, joined-inside, wf-joined, wf-cut, mesh-fits}
-use Rattle.journal_store.specs.Days.{Dated, before, since, mapAfter, mapOn, lastDay, everOf, beforeFold, onAnswer}
+use Rattle.journal_store.specs.Days.{Dated, before, since, mapAfter, mapOn, lastDay, everOf}
 use Rattle.journal_store.specs.Journals.{entriesIn, foldIn, dayIn, isJournal, editsIn, Counted, Pictured}
 use Rattle.journal_store.proofs.Days.{before-then, ascends-since, fit-since, counted-split, after-then}
 use Rattle.journal_store.proofs.Reading.{head-entries, head-fold, day-read, edits-read}
 use Rattle.replay.specs.Replayed.{Replayed}
 use Rattle.journal.specs.Kept.{Filed, both}
-use Rattle.year.specs.Calls.{OnDay}
-use Rattle.journal.proofs.Both.{after-caps, none-both, opened-both, opened-room, kept-both}
+use Rattle.year.specs.Calls.{dayOpened, OnDay}
+use Rattle.journal.proofs.Both.{after-caps, opened-room, kept-both}
+use Rattle.year.proofs.Opened.{filed-fold, filed-room, openingSays, DayOpen, day-other-why, day-opens, day-fits, day-says}
 
 module _ {m : Map} {past : List Dated} {fold : ℕ} {j start : List ℕ} (f : Filed m past fold j start) where
-  pub filed-both : both start j ≡ true
-  filed-both =
-      kept-both start j (mapAfter m (before fold past)) (since fold past) (lastDay past) (everOf past) fold (f .starts) (rw (after-caps m (before fold past)) (f .journal))
-
-  pub filed-fold : foldIn j ≡ fold
-  filed-fold = head-fold j _ _ _ _ _ (f .journal)
-
   pub filed-entries : entriesIn j ≡ length (since fold past)
   filed-entries = head-entries j _ _ _ _ _ (f .journal)
 
@@ -64,11 +58,6 @@ module _ {m : Map} {past : List Dated} {fold : ℕ} {j start : List ℕ} (f : Fi
       ∙ (sym (after-then m (before fold past) (before (suc day) (since fold past)))
       ∙ ap (mapAfter m) (before-then fold (suc day) (omega arith) (f .order))))
 
-  -- the room is that of the starting map's head
-  pub filed-room : (caps : Caps) → Mesh caps ≡ opened start → roomOf m ≡ room (caps .marks) (caps .cells)
-  filed-room caps opens =
-      ap (λ (z : Caps). room (z .marks) (z .cells)) (sym (after-caps m (before fold past)) ∙ wf-caps start (mapAfter m (before fold past)) (f .starts) caps opens)
-
   -- made from the words of the starting map's room
   pub filed-replayed : (caps : Caps) → Mesh caps ≡ opened start → (r : ℕ) → r ≡ room (caps .marks) (caps .cells) → (n day k : ℕ) → n ≡ entriesIn j
       → Counted j n day k → fold ≤ day + 1 → (x rest : List ℕ) → Run (take r start) (editsIn j k) x → Wf (x ++ rest) (mapAfter m (before (suc day) past))
@@ -83,73 +72,43 @@ module _ {m : Map} {past : List Dated} {fold : ℕ} {j start : List ℕ} (f : Fi
 pub room-only : (w x : List ℕ) (r : ℕ) → r ≤ length w → length x ≡ length (take r w) → Only (λ i. i < r) w (x ++ drop r w)
 room-only w x r long size = rw (length-take-le r w long, take-append-drop r w) at (joined-inside (take r w) x (drop r w) size)
 
--- the answer, check by check
-module _ (fold day r words : ℕ) where
-  answer-folded : day + 1 < fold → onAnswer fold day r words ≡ refused DayFolded
-  unfolding onAnswer beforeFold _when_ answer refused
-  answer-folded h = rw (lt-ltb (day + 1) fold h)
-
-  module _ (late : fold ≤ day + 1) where
-    answer-short : words < r → onAnswer fold day r words ≡ refused MemoryShort
-    unfolding onAnswer beforeFold _when_ answer refused
-    answer-short h = rw (le-ltb (day + 1) fold late, lt-ltb words r h)
-
-    answer-made : r ≤ words → onAnswer fold day r words ≡ given []
-    unfolding onAnswer beforeFold _when_ answer given
-    answer-made h = rw (le-ltb (day + 1) fold late, le-ltb words r h)
-
-module _ (j start second : List ℕ) (day : ℕ) where
-  on-refused : (why : Refusal) → (both start j ≡ false → why ≡ NotMesh)
-      → ((m : Map) (past : List Dated) (fold : ℕ) → Filed m past fold j start → onAnswer fold day (roomOf m) (length second) ≡ refused why)
-      → OnDay j start day second (Refused why) second
-  unfolding verdictSays
-  on-refused why none says = record {
-    refused = λ n. ap Refused (none n);
+-- what opens a day, or does not
+module _ (j start second : List ℕ) (day : ℕ) (opening : Opening) (is : opening ≡ dayOpened j start day (length second)) where
+  pub on-refused : (why : Refusal) → opening ≡ Opening′.Refused why → OnDay j start day second (Refused why) second
+  unfolding verdictSays openingSays
+  on-refused why q = record {
+    refused = λ n. ap Refused (day-other-why j start day (length second) n why (sym is ∙ q));
     kept = λ other q. refl;
     inside = only-none;
-    answers = λ m past fold f. (sym (says m past fold f), λ q. let z : _≡_ {A = ℕ} 0 1 = cc in absurd (omega arith));
+    answers = λ m past fold f.
+        (ap openingSays (sym q ∙ is) ∙ day-says f day (length second), λ q. let z : _≡_ {A = ℕ} 0 1 = cc in absurd (omega arith));
   }
 
-  pub on-none : Nothing ≡ opened start → OnDay j start day second (Refused NotMesh) second
-  on-none e = on-refused NotMesh (λ n. refl) (λ m past fold f. absurd (clash (filed-both f) (none-both start j e)))
+  module _ (caps : Caps) (q : opening ≡ Opening′.Open caps) (r : ℕ) (er : r ≡ room (caps .marks) (caps .cells)) where
+    opens : DayOpen j start day (length second) caps
+    opens = day-opens j start day (length second) caps (sym is ∙ q)
 
-  module _ (caps : Caps) (opens : Mesh caps ≡ opened start) where
-    pub on-other : (is : Bool) → is ≡ isJournal j caps → is ≡ false → OnDay j start day second (Refused NotMesh) second
-    on-other is ei ef =
-        on-refused NotMesh (λ n. refl) (λ m past fold f. absurd (clash (filed-both f) (opened-both start j caps opens ∙ (sym ei ∙ ef))))
+    on-fits : r ≤ length second
+    on-fits = day-fits j start day (length second) opening is caps q r er
 
-    module _ (is : Bool) (ei : is ≡ isJournal j caps) (et : is ≡ true) where
-      both-are : both start j ≡ true
-      both-are = opened-both start j caps opens ∙ (sym ei ∙ et)
+    pub on-made : (n k : ℕ) → n ≡ entriesIn j → Counted j n day k → (x : List ℕ) → Replayed start j k (take r second) x
+        → OnDay j start day second Accepted (x ++ drop r second)
+    unfolding verdictSays mapOn openingSays
+    on-made n k en c x did = record {
+      refused = λ n. absurd (clash (opens .are) n);
+      kept = λ why q. absurd (let z : _≡_ {A = ℕ} 0 1 = cc in omega arith);
+      inside = rw (← (er ∙ opened-room start j caps (opens .mesh))) (room-only second x r on-fits (did .size));
+      answers = λ m past g f. (
+        ap openingSays (sym q ∙ is) ∙ day-says f day (length second),
+        λ q. filed-replayed f caps (opens .mesh) r er n day k en c (omega (arith, opens .late, filed-fold f)) x (drop r second) run,
+      );
+    }
+      where
+        size : length (take r second) ≡ r
+        size = length-take-le r second on-fits
 
-      pub on-folded : (fold : ℕ) → fold ≡ foldIn j → day + 1 < fold → OnDay j start day second (Refused DayFolded) second
-      on-folded fold ef h =
-          on-refused DayFolded (λ n. absurd (clash both-are n)) (λ m past g f. answer-folded g day _ _ (omega (arith, filed-fold f)))
+        long : r ≤ length start
+        long = omega (arith, er, opened-room start j caps (opens .mesh), mesh-fits start (mesh-opened start caps (opens .mesh) .0))
 
-      module _ (fold : ℕ) (ef : fold ≡ foldIn j) (late : fold ≤ day + 1) (r : ℕ) (er : r ≡ room (caps .marks) (caps .cells)) where
-        pub on-short : length second < r → OnDay j start day second (Refused MemoryShort) second
-        on-short h =
-            on-refused MemoryShort (λ n. absurd (clash both-are n)) (λ m past g f.
-            answer-short g day _ _ (omega (arith, filed-fold f)) (omega (arith, filed-room f caps opens)))
-
-        pub on-made : r ≤ length second → (n k : ℕ) → n ≡ entriesIn j → Counted j n day k → (x : List ℕ) → Replayed start j k (take r second) x
-            → OnDay j start day second Accepted (x ++ drop r second)
-        unfolding verdictSays mapOn
-        on-made fits n k en c x did = record {
-          refused = λ n. absurd (clash both-are n);
-          kept = λ why q. absurd (let z : _≡_ {A = ℕ} 0 1 = cc in omega arith);
-          inside = rw (← (er ∙ opened-room start j caps opens)) (room-only second x r fits (did .size));
-          answers = λ m past g f. (
-            sym (answer-made g day _ _ (omega (arith, filed-fold f)) (omega (arith, filed-room f caps opens))),
-            λ q. filed-replayed f caps opens r er n day k en c (omega (arith, filed-fold f)) x (drop r second) run,
-          );
-        }
-          where
-            size : length (take r second) ≡ r
-            size = length-take-le r second fits
-
-            long : r ≤ length start
-            long = omega (arith, er, opened-room start j caps opens, mesh-fits start (mesh-opened start caps opens .0))
-
-            run : Run (take r start) (editsIn j k) x
-            run = rw size at (did .runs (omega (arith, size, long)))
+        run : Run (take r start) (editsIn j k) x
+        run = rw size at (did .runs (omega (arith, size, long)))

@@ -1,23 +1,34 @@
 -- What a query for a day and a fold promise: 14 for memory that is none; a refusal changes nothing, on any memory; nothing is written behind the
 -- room, nor behind the last edit that fits; on memory kept by these calls the answer is the definition's, and what is left is kept.
 use mathlib.Core.Path.{_≡_}
-use mathlib.Core.Bool.{false}
+use mathlib.Core.Bool.{false, cond}
 use mathlib.Core.List.{List}
 use Prim.Native.Nat.{ℕ, _<_}
+use lib.Dec.{ltb}
 use lib.ListN.{length}
 use Rattle.numbers.specs.Room.{room}
 use Rattle.words.specs.Words.{Only}
-use Rattle.store.specs.Open.{roomIn}
+use Rattle.store.specs.Open.{roomIn, capsIn}
 use Rattle.map.specs.Cells.{Map}
 use Rattle.map.specs.Says.{verdictSays}
 use Rattle.map.specs.declared.Refusal.{Refusal}
-use Rattle.map.specs.declared.Refusal.the-variants.{NotMesh}
+use Rattle.map.specs.declared.Refusal.the-variants.{NotMesh, MemoryShort, DayFolded}
 use Rattle.map.specs.declared.Verdict.{Verdict}
 use Rattle.map.specs.declared.Verdict.the-variants.{Accepted, Refused}
 use Rattle.picture.specs.Picture.{Wf}
-use Rattle.journal_store.specs.Days.{Dated, mapOn, onAnswer, foldAnswer, foldAfter}
+use Rattle.checks.specs.declared.Opening.{Opening}
+use Rattle.checks.specs.declared.Opening.the-variants as Opening′
+use Rattle.journal_store.specs.Days.{Dated, mapOn, beforeFold, onAnswer, foldAnswer, foldAfter}
 use Rattle.journal_store.specs.Entries.{usedOf}
+use Rattle.journal_store.specs.Journals.{foldIn}
 use Rattle.journal.specs.Kept.{Filed, both}
+
+-- what opens a query for a day: 14, "query 21 for a day before the last fold, then 2"
+unfoldable pub dayOpened : List ℕ → List ℕ → ℕ → ℕ → Opening
+dayOpened j start day words =
+    cond (both start j)
+    (cond (beforeFold (foldIn j) day) (Opening′.Refused DayFolded) (cond (ltb words (roomIn start)) (Opening′.Refused MemoryShort) (Opening′.Open (capsIn start))))
+    (Opening′.Refused NotMesh)
 
 -- "Asked for a day, write into second mesh memory a mesh whose answers equal those after all edits of that day and earlier ones"
 pub record OnDay (j start : List ℕ) (day : ℕ) (second : List ℕ) (r : Verdict) (second′ : List ℕ) : Type 0 where

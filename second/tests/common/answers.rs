@@ -31,9 +31,12 @@ pub fn answers(memory: &Memory) -> Vec<String> {
 
 fn about_cell(memory: &Memory, cell: u32, lines: &mut Vec<String>) {
     let code = memory.type_of(cell);
+    let licence = memory.licence(cell);
     let marks = memory.marks_of(cell);
     let neighbours = memory.neighbours(cell, PLENTY);
-    lines.push(format!("cell {cell} {code:?} {marks:?} {neighbours:?}"));
+    lines.push(format!(
+        "cell {cell} {code:?} {licence:?} {marks:?} {neighbours:?}"
+    ));
     for facet in 0..=6 {
         let sibling = memory.sibling(cell, facet);
         let border = memory.border(cell, facet);

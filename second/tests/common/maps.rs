@@ -58,16 +58,23 @@ pub fn mesh(marks: u32, cells: u32, records: &[Record]) -> Memory {
 pub fn mesh_edition(marks: u32, cells: u32, edition: u32, records: &[Record]) -> Memory {
     let mut memory = formatted_edition(marks, cells, edition);
     for &(cell, code, marks) in records {
-        memory.insert(cell, code, marks).expect("a good record");
+        memory
+            .insert_licensed(cell, code, licence_of(cell), marks)
+            .expect("a good record");
     }
     memory
+}
+
+/// The licence of a record's cell: none, one that others have, the largest.
+pub fn licence_of(cell: u32) -> u32 {
+    [0, 7, u32::MAX][cell as usize % 3]
 }
 
 /// The records as one list of words, as build takes them.
 pub fn words(records: &[Record]) -> Vec<u32> {
     let mut words = Vec::new();
     for &(cell, code, marks) in records {
-        words.extend([cell, code]);
+        words.extend([cell, code, licence_of(cell)]);
         words.extend(marks);
     }
     words
@@ -84,7 +91,9 @@ pub fn full_mark_records() -> Vec<(u32, u32, Vec<u32>)> {
 pub fn with_full_mark() -> Memory {
     let mut memory = formatted(200, 200);
     for (cell, code, marks) in full_mark_records() {
-        memory.insert(cell, code, &marks).expect("up to 128 fit");
+        memory
+            .insert_licensed(cell, code, licence_of(cell), &marks)
+            .expect("up to 128 fit");
     }
     memory
 }
@@ -105,7 +114,9 @@ pub fn full_face_records() -> Vec<(u32, u32, Vec<u32>)> {
 pub fn with_full_face() -> Memory {
     let mut memory = formatted_edition(200, 200, 2);
     for (cell, code, marks) in full_face_records() {
-        memory.insert(cell, code, &marks).expect("up to 128 fit");
+        memory
+            .insert_licensed(cell, code, licence_of(cell), &marks)
+            .expect("up to 128 fit");
     }
     memory
 }

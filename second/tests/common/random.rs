@@ -26,6 +26,16 @@ impl Random {
         }
     }
 
+    /// A licence: none, one that several cells have, one of the largest, or any.
+    pub fn licence(&mut self) -> u32 {
+        match self.below(4) {
+            0 => 0,
+            1 => 7,
+            2 => u32::MAX - self.below(2) as u32,
+            _ => self.below(1 << 32) as u32,
+        }
+    }
+
     /// So many different marks, in any order.
     pub fn marks(&mut self, capacity: u32, count: usize) -> Vec<u32> {
         let mut marks: Vec<u32> = (0..capacity).collect();
@@ -41,7 +51,8 @@ pub fn insert_by_chance(random: &mut Random, memory: &mut Memory) -> Result<(), 
     let cell = random.below(mesh.cells as usize) as u32;
     let row = &TYPES[random.below(TYPES.len())];
     let marks = random.marks(mesh.marks, row.marks);
-    memory.insert(cell, row.code, &marks)
+    let licence = random.licence();
+    memory.insert_licensed(cell, row.code, licence, &marks)
 }
 
 /// A map of few marks, so that many cells share them.

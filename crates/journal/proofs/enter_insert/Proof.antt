@@ -13,14 +13,14 @@ returns c =
     let at-full = c .before .before .before .before in
     let at-caps = at-full .before .before .before in
     let at-about = at-caps .before .before in
-    entry-full _ _ _ _ (entry-open _ _ _ _ (at-about .about-entry .ensures) _ (at-caps .caps .given .1)) _ (at-full .is-full .ensures) (c .before .before .before .if1 .taken) _ (λ m. insert-says m _ _) _ (at-own .about-insert .ensures) _ (c .when-full .ensures)
+    entry-full _ _ _ _ (entry-open _ _ _ _ (at-about .about-entry .ensures) _ (at-caps .caps .given .1)) _ (at-full .is-full .ensures) (c .before .before .before .if1 .taken) _ (λ m. insert-says m _ _ _ _) _ (at-own .about-insert .ensures) _ (c .when-full .ensures)
 
 returns-2 : tie.Need-returns-2
 returns-2 c =
     let at-edit = c .before .before .before .before .before in
     let at-caps = at-edit .before .before .before .before .before .before in
     let at-about = at-caps .before .before in
-    entry-own _ _ _ _ (entry-open _ _ _ _ (at-about .about-entry .ensures) _ (at-caps .caps .given .1)) _ _ _ (at-edit .insert .ensures) (c .before .why2 .given .1)
+    entry-own _ _ _ _ (entry-open _ _ _ _ (at-about .about-entry .ensures) _ (at-caps .caps .given .1)) _ _ _ (at-edit .insert-licensed .ensures) (c .before .why2 .given .1)
 
 append-requires : tie.Need-append-requires
 append-requires c κs =
@@ -38,7 +38,7 @@ returns-4 c =
     let at-full = at-if1 .before in
     let at-caps = at-full .before .before .before in
     let at-about = at-caps .before .before in
-    entry-made _ _ _ _ (entry-open _ _ _ _ (at-about .about-entry .ensures) _ (at-caps .caps .given .1)) _ (at-full .is-full .ensures) (at-if1 .if1 .left) _ _ _ _ (at-edit .insert .ensures) (at-told .enum-told .given .1) (insert-words _ _ _ _) (c .before .before .append .ensures)
+    entry-made _ _ _ _ (entry-open _ _ _ _ (at-about .about-entry .ensures) _ (at-caps .caps .given .1)) _ (at-full .is-full .ensures) (at-if1 .if1 .left) _ _ _ _ (at-edit .insert-licensed .ensures) (at-told .enum-told .given .1) (insert-words _ _ _ _ _) (c .before .before .append .ensures)
 
 pub enter-insert-spec : {M : Type 1} → statement M
 enter-insert-spec =

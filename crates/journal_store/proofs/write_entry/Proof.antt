@@ -13,7 +13,7 @@ returns c =
     let at-entry = at-copy .before .before .before in
     let given = at-entry .before .before .before .args in
     rw (← (at-entry .entry-at .ensures))
-    (copied-then (given .day ∷ given .kind ∷ given .c .0 ∷ given .t ∷ 0 ∷ []) _ _ _ _ _ _ 5 11 16 (at-copy .copy-words .ensures) (c .before .before .copy-words2 .ensures) (omega arith) refl refl)
+    (copied-then (given .day ∷ given .kind ∷ given .c .0 ∷ given .t ∷ given .licence ∷ []) _ _ _ _ _ _ 5 11 16 (at-copy .copy-words .ensures) (c .before .before .copy-words2 .ensures) (omega arith) refl refl)
 
 pub write-entry-spec : {M : Type 1} → statement M
 write-entry-spec =

@@ -57,7 +57,7 @@ returns-5 c =
     (and-yes _ _ _ (sym (at-type .typed .ensures) ∙ not-false _ (at-marks .before .if1 .left))
     (and-yes _ _ _ (sym (at-fine .fine .ensures) ∙ not-false _ (at-corners .before .if2 .left))
     (and-yes _ _ _ (sym (at-corners .corners-ok .ensures) ∙ not-false _ (at-facets .before .if3 .left))
-    (and-yes _ _ _ (sym (at-facets .facets-ok .ensures) ∙ not-false _ (c .before .if4 .left)) (c .cell-blank .ensures)))))
+    (and-yes _ _ _ (sym (at-facets .facets-ok .ensures) ∙ not-false _ (c .before .if4 .left)) (c .rest-ok .ensures)))))
 
 pub record-ok-spec : {M : Type 1} → statement M
 record-ok-spec =

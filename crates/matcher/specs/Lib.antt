@@ -1,0 +1,4 @@
+pub mod Licences
+pub mod Least
+pub mod Gathered
+pub mod Complaint
