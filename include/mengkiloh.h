@@ -22,7 +22,7 @@
  * Every call but mk_version and the two whole checks answers a refusal number: 0 if it is accepted, else
  * why it is refused (enum mk_refusal; mk_meaning says it in words). Values come through pointers, and only
  * where the call is accepted: a refused call leaves everything that was lent as it was. The exceptions are
- * builds, mk_off_read, mk_edits and mk_licences.
+ * builds, mk_off_read, mk_edits, mk_licences and mk_plan_check.
  *
  * A list is a pointer and a count of 32-bit words, of positions one of 16-bit numbers, of points one
  * of 64-bit floats, of text one of bytes. A list's pointer and the pointer of a single number are aligned to the size of
@@ -48,10 +48,10 @@ extern "C" {
 #endif
 
 /*
- * The version that this header is of, 5.0.0: major, minor and patch, a byte each; and the version of
+ * The version that this header is of, 5.1.0: major, minor and patch, a byte each; and the version of
  * the library that is linked.
  */
-#define MK_VERSION 0x050000u
+#define MK_VERSION 0x050100u
 uint32_t mk_version(void);
 
 /* Why a call is refused. Checks run in the order that each call lists. */
@@ -80,7 +80,8 @@ enum mk_refusal {
     MK_DAY_BEFORE = 20,     /* entry: a day before the last */
     MK_DAY_FOLDED = 21,     /* query: a day before the last fold */
     MK_FOLD_NOT_ALLOWED = 22, /* fold: not allowed, or no edit was ever entered */
-    MK_JOURNAL_FULL = 23    /* entry: the journal is full */
+    MK_JOURNAL_FULL = 23,   /* entry: the journal is full */
+    MK_PLAN_WRONG = 24      /* plan: an edit is wrong, or the end is not as wanted; place says where */
 };
 
 /* What a refusal number means, in words: "accepted" for 0, and "no such refusal" for a number that is none. */
@@ -134,6 +135,8 @@ static inline const char *mk_meaning(uint8_t refusal)
             return "the fold is not allowed, or no edit was ever entered";
         case MK_JOURNAL_FULL:
             return "the journal is full";
+        case MK_PLAN_WRONG:
+            return "an edit of the plan is wrong, or its end is not as wanted";
         default:
             return "no such refusal";
     }
@@ -255,6 +258,34 @@ enum mk_kind {
  */
 uint8_t mk_edits(uint32_t *mesh, size_t words, const uint32_t *edits, size_t count, uint32_t *tally,
                  size_t *made);
+
+/*
+ * Plan check: whether a list of edits, as mk_edits takes it, takes this mesh to the wanted cells, which are
+ * given as build records. 0 is yes: every edit in order would be accepted, and the live cells afterwards, with
+ * type, marks in their order and licence, are the wanted ones, each once; so a cell that is wanted twice is
+ * never right. edit_words and wanted_words are the counts of words of all edits and of all records. Refused
+ * with 14, 2 for second below the mesh's room, then at a wanted record, the first that is wrong, with 7 for a
+ * missing number, type or licence, 6 for an unknown type, 7 for missing marks; then with 24. place is written
+ * with 24 only: the place, counted in edits from 0, of the first edit that is refused, of another kind or cut
+ * short, or the number of edits where only the end differs. 0 and 24 leave in second the mesh after the edits
+ * that were accepted, word for word, the others leave second as it was. The mesh is only read. Time grows with
+ * the room, the lists and the stars of the edited marks, never with their product. This call and the next one
+ * take 64 KiB of stack.
+ */
+uint8_t mk_plan_check(const uint32_t *mesh, size_t words, const uint32_t *edits, size_t edit_words,
+                      const uint32_t *wanted, size_t wanted_words, uint32_t *second, size_t second_words,
+                      size_t *place);
+
+/*
+ * Planner: a list of edits from this mesh to the wanted cells, which are given as build records: a removal of
+ * every live cell that is not wanted as it stands, ascending, then an insert of every wanted cell that does
+ * not stand so, in the list's order. The plan is written to the first words of out, of which there are room,
+ * and their count to count. Whenever mk_build_edition accepts the wanted list under the mesh's capacities and
+ * edition, mk_plan_check says yes to the plan. Refused with 14, 7 and 6 at a wanted record as by
+ * mk_plan_check, 12. 2 * cells + wanted_words + wanted_words / 5 words hold any plan, cells the capacity.
+ */
+uint8_t mk_plan(const uint32_t *mesh, size_t words, const uint32_t *wanted, size_t wanted_words, uint32_t *out,
+                size_t room, size_t *count);
 
 /*
  * Type: the type code of a cell. Refused with 14, 3, 5.

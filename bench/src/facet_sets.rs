@@ -57,6 +57,7 @@ impl Cell {
     }
 }
 
+#[derive(Clone)]
 pub struct FacetSets {
     cells: Vec<Option<Cell>>,
     halves: HashMap<Set, Vec<u32>>,

@@ -2,7 +2,8 @@
 //! facet sets, in one run on one machine; with `switchboard` and files of surfaces,
 //! what request 11 asks; with `once` and the name of a map, its edits made once, to be
 //! counted from outside; with `journal`, the map on any day; with `complaint`, the
-//! licences to ask; with `off` and files of surfaces, surfaces read and written.
+//! licences to ask; with `plan`, planned changes and their check; with `off` and files
+//! of surfaces, surfaces read and written.
 
 mod clock;
 mod complaint;
@@ -11,6 +12,7 @@ mod facet_sets;
 mod journal;
 mod maps;
 mod off;
+mod plan;
 mod switchboard;
 
 use facet_map::FacetMap;
@@ -41,6 +43,7 @@ fn main() {
         Some((word, names)) if word == "once" => switchboard::once(names),
         Some((word, _)) if word == "journal" => journal::run(),
         Some((word, _)) if word == "complaint" => complaint::run(),
+        Some((word, _)) if word == "plan" => plan::run(),
         Some((word, files)) if word == "off" => {
             if let Err(why) = off::run(files) {
                 eprintln!("{why}");

@@ -75,12 +75,8 @@ fn measured(text: &[u8]) -> Result<Column, OffError> {
     let mut records = Records::new();
     for cell in mesh.live().map_err(refused)? {
         let code = mesh.type_of(cell).map_err(refused)?;
-        records.add(
-            cell,
-            code,
-            Licence(0),
-            mesh.marks_of(cell).map_err(refused)?,
-        );
+        let marks = mesh.marks_of(cell).map_err(refused)?;
+        records.add(cell, code, Licence(0), marks);
     }
     let mut out = vec![0; off_room(marks, cells)];
     let mut costs = [f64::INFINITY; 3];

@@ -64,6 +64,26 @@ extern "C" {
         tally: *mut u32,
         made: *mut usize,
     ) -> u8;
+    pub fn mk_plan_check(
+        mesh: *const u32,
+        words: usize,
+        edits: *const u32,
+        edit_words: usize,
+        wanted: *const u32,
+        wanted_words: usize,
+        second: *mut u32,
+        second_words: usize,
+        place: *mut usize,
+    ) -> u8;
+    pub fn mk_plan(
+        mesh: *const u32,
+        words: usize,
+        wanted: *const u32,
+        wanted_words: usize,
+        out: *mut u32,
+        room: usize,
+        count: *mut usize,
+    ) -> u8;
     pub fn mk_type(mesh: *const u32, words: usize, cell: u32, code: *mut u32) -> u8;
     pub fn mk_licence(mesh: *const u32, words: usize, cell: u32, licence: *mut u32) -> u8;
     pub fn mk_marks(mesh: *const u32, words: usize, cell: u32, at: *mut u32, count: *mut u32)

@@ -43,7 +43,8 @@
 //! cell, a list of [`Edits`] that is stopped leaves those before, and licences
 //! that the list has no room for leave that day's mesh. A [`Journal`] keeps each
 //! edit with its day and gives the map on any of them. A [`Surface`] is read from
-//! OFF text and written as such.
+//! OFF text and written as such. A list of [`Edits`] is [checked](Mesh::check_plan)
+//! against a wanted list of cells before it is made, and [planned](Mesh::plan).
 
 #![warn(clippy::missing_errors_doc)]
 
@@ -51,6 +52,7 @@ mod calls;
 mod journal;
 mod lists;
 mod numbers;
+mod plan;
 mod records;
 mod refusal;
 mod surfaces;
@@ -66,6 +68,7 @@ pub use journal::{journal_words, Journal};
 pub use lists::{Live, Walk};
 use numbers::Register;
 pub use numbers::{Cell, Half, Licence, Mark, Way};
+pub use plan::PlanRefused;
 pub use records::{Edits, Records, Tally};
 pub use refusal::Refusal;
 pub use surfaces::{off_room, OffError, OffRefused, Surface};

@@ -1,11 +1,12 @@
 //! The refusals, with the outline's numbers and the names of `map::Refusal`;
-//! those of a surface, 17 and 18, are answers of two calls alone.
+//! those of a surface, 17 and 18, and of a plan, 24, are answers of three calls alone.
 
 use std::fmt;
 
 /// Why a call was refused. A refused call changes nothing, save a build refused
-/// at a record, a surface refused at a face, a list of edits that is stopped, and
-/// licences that the list has no room for, which leave that day's mesh.
+/// at a record, a surface refused at a face, a list of edits that is stopped,
+/// licences that the list has no room for, which leave that day's mesh, and a wrong
+/// plan, which leaves the mesh after the edits before.
 #[derive(Clone, Copy, Debug, PartialEq, Eq, PartialOrd, Ord, Hash)]
 #[repr(u8)]
 pub enum Refusal {
@@ -31,11 +32,12 @@ pub enum Refusal {
     DayFolded = 21,
     FoldNotAllowed = 22,
     JournalFull = 23,
+    PlanWrong = 24,
 }
 
 impl Refusal {
     /// All of them, by number.
-    pub const ALL: [Refusal; 22] = [
+    pub const ALL: [Refusal; 23] = [
         Refusal::CapacityAbove,
         Refusal::MemoryShort,
         Refusal::CellOutside,
@@ -58,6 +60,7 @@ impl Refusal {
         Refusal::DayFolded,
         Refusal::FoldNotAllowed,
         Refusal::JournalFull,
+        Refusal::PlanWrong,
     ];
 
     /// The outline's number.
@@ -97,6 +100,7 @@ impl Refusal {
             Refusal::DayFolded => "the day that is asked for is before the last fold",
             Refusal::FoldNotAllowed => "the fold is not allowed, or no edit was ever entered",
             Refusal::JournalFull => "the journal is full",
+            Refusal::PlanWrong => "an edit of the plan is wrong, or its end is not as wanted",
         }
     }
 

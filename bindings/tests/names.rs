@@ -33,7 +33,7 @@ fn ours() -> Vec<String> {
 #[test]
 fn numbers_are_those_of_the_table() {
     let numbers = Refusal::ALL.map(Refusal::number);
-    assert!(numbers.iter().copied().eq((1..=14).chain(16..=23)));
+    assert!(numbers.iter().copied().eq((1..=14).chain(16..=24)));
 }
 
 #[test]
@@ -44,9 +44,10 @@ fn the_proved_crate_has_these_names() {
     // the frame program's own
     assert!(theirs.contains(&"BadFrame"));
     theirs.retain(|&name| name != "BadFrame");
-    // answers of a surface's two calls alone, `Surfaced` and `Written`
+    // answers of a surface's two calls alone, `Surfaced` and `Written`, and of a plan's
+    // check, `Planned`
     let mut ours = ours();
-    ours.retain(|name| !["OffBroken", "NotSurface"].contains(&name.as_str()));
+    ours.retain(|name| !["OffBroken", "NotSurface", "PlanWrong"].contains(&name.as_str()));
     assert_eq!(theirs, ours);
 }
 
@@ -180,7 +181,7 @@ fn the_header_has_the_version_of_the_library() {
         .find_map(|line| line.strip_prefix("#define MK_VERSION 0x"));
     let digits = defined.expect("the version is there").trim_end_matches('u');
     assert_eq!(u32::from_str_radix(digits, 16), Ok(mengkiloh::version()));
-    assert_eq!(mengkiloh::version().to_be_bytes(), [0, 5, 0, 0]);
+    assert_eq!(mengkiloh::version().to_be_bytes(), [0, 5, 1, 0]);
 }
 
 #[test]

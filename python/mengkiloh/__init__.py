@@ -22,4 +22,4 @@ from .numbers import Edition, Half, Insert, Measure, MeasureKind, Point, Remove,
 from .refusals import *  # noqa: F403: one class for each refusal
 from .refusals import MEANINGS, REFUSALS, Refused
 
-__version__ = "5.0.0"
+__version__ = "5.1.0"

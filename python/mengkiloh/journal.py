@@ -7,7 +7,7 @@ from collections.abc import Iterable
 from ctypes import byref, c_uint32
 
 from .library import load
-from .mesh import MOST_AROUND, Memory, Mesh, judge, lent, number, numbers, room
+from .mesh import MOST_AROUND, Memory, Mesh, apart, judge, lent, number, numbers, room
 
 HEAD = 16
 AN_EDIT = 16
@@ -111,11 +111,3 @@ class Journal:
 
 def pair(words: ctypes.Array) -> tuple[ctypes.Array, int]:
     return words, len(words)
-
-
-def apart(*lists: ctypes.Array) -> None:
-    """What a call writes must not overlap anything else that is lent to it."""
-    ranges = sorted((ctypes.addressof(words), ctypes.sizeof(words)) for words in lists if len(words))
-    for (at, size), (then, _) in zip(ranges, ranges[1:]):
-        if at + size > then:
-            raise ValueError("the mesh, the journal, the starting map and the second memory must not overlap")

@@ -36,6 +36,8 @@ CALLS: dict[str, list] = {
     "mk_insert_licensed": [*LENT, c_uint32, c_uint32, c_uint32, *LENT],
     "mk_remove": [*LENT, c_uint32],
     "mk_edits": [*LENT, *LENT, WORDS, POINTER(c_size_t)],
+    "mk_plan_check": [*LENT, *LENT, *LENT, *LENT, POINTER(c_size_t)],
+    "mk_plan": [*LENT, *LENT, *LENT, POINTER(c_size_t)],
     "mk_type": [*LENT, c_uint32, NUMBER],
     "mk_licence": [*LENT, c_uint32, NUMBER],
     "mk_marks": [*LENT, c_uint32, NUMBER, NUMBER],

@@ -10,7 +10,7 @@ from typing import Any, NamedTuple, Union
 
 from .library import load
 from .numbers import Edition, Half, Insert, Measure, MeasureKind, Point, Remove, Step, Tally, Type, Way
-from .refusals import REFUSALS, NotMesh, Refused
+from .refusals import REFUSALS, NotMesh, PlanWrong, Refused
 
 MOST_CAPACITY = 65_535
 MOST_AROUND = 128
@@ -196,6 +196,38 @@ class Mesh:
         tally.accepted, tally.refused = counts
         judge(refusal, made=made.value)
         return made.value
+
+    # ---- planned changes
+
+    def check_plan(self, edits: Iterable[Insert | Remove], wanted: Iterable[Insert | tuple[int, int, Sequence[int]]], memory: Memory | None = None) -> Mesh:
+        """Whether the edits take this mesh to the wanted cells, records as `build` takes them: the mesh after them, in memory that is lent, or in its own.
+
+        They do if every edit in order would be accepted, and the live cells afterwards, with type, marks in their order and licence, are the wanted
+        ones, each once. This mesh is only read.
+
+        Refused with 14, 2, 6 for an unknown type in the wanted list, 7 for too few marks at its end; then with 24, `PlanWrong`, whose `place` is that of
+        the first wrong edit, from 0, or the number of edits where only the end differs. 24 leaves in memory that is lent the mesh after the edits before.
+        """
+        second = Mesh(bytearray(4 * len(self._words)) if memory is None else memory)
+        apart(self._words, second._words)
+        plan = numbers("a word of an edit", (word for edit in edits for word in edit_words(edit)))
+        list_, place = wanted_words(wanted), c_size_t()
+        refusal = self._call("mk_plan_check", plan, len(plan), list_, len(list_), second._words, len(second._words), byref(place))
+        judge(refusal, **({"place": place.value} if refusal == PlanWrong.number else {}))
+        return second
+
+    def plan(self, wanted: Iterable[Insert | tuple[int, int, Sequence[int]]]) -> list[Insert | Remove]:
+        """A plan that takes this mesh to the wanted cells: each cell removed that is not wanted as it stands, ascending, then each inserted that is
+        missing, in the list's order. `check_plan` says yes to it whenever the wanted list can be built under the same capacities and edition.
+
+        Refused with 14, 6 for an unknown type in the wanted list, 7 for too few marks at its end.
+        """
+        list_, count = wanted_words(wanted), c_size_t()
+        # a removal for each cell, and for each record, of which none has under 5 words, an insert of one word more
+        most = 2 * self.capacities().cells + len(list_) + len(list_) // 5
+        out = (c_uint32 * most)()
+        self._ask("mk_plan", list_, len(list_), out, most, byref(count))
+        return edits_of(out[: count.value])
 
     # ---- what reads
 
@@ -404,3 +436,32 @@ def edit_words(edit: Insert | Remove) -> tuple[int, ...]:
     if isinstance(edit, Remove):
         return (2, edit.cell)
     raise TypeError(f"an edit is an Insert or a Remove, not {edit!r}")
+
+
+def wanted_words(wanted: Iterable[Insert | tuple[int, int, Sequence[int]]]) -> ctypes.Array:
+    """Wanted cells as the words of build records."""
+    return numbers("a word of a record", (word for record in wanted for word in record_words(Insert(*record))))
+
+
+def edits_of(words: Sequence[int]) -> list[Insert | Remove]:
+    """The edits that the words of a plan say."""
+    edits: list[Insert | Remove] = []
+    at = 0
+    while at < len(words):
+        if words[at] == 2:
+            edits.append(Remove(words[at + 1]))
+            at += 2
+        else:
+            cell, kind, licence = words[at + 1], Type(words[at + 2]), words[at + 3]
+            end = at + 4 + kind.marks
+            edits.append(Insert(cell, kind, list(words[at + 4 : end]), licence))
+            at = end
+    return edits
+
+
+def apart(*lists: ctypes.Array) -> None:
+    """What a call writes must not overlap anything else that is lent to it."""
+    ranges = sorted((ctypes.addressof(words), ctypes.sizeof(words)) for words in lists if len(words))
+    for (at, size), (then, _) in zip(ranges, ranges[1:]):
+        if at + size > then:
+            raise ValueError("a mesh, a journal, a starting map and second memory must not overlap")

@@ -19,6 +19,11 @@ class Type(IntEnum):
     WEDGE = 6
     BRICK = 7
 
+    @property
+    def marks(self) -> int:
+        """How many marks a cell of the type has."""
+        return (2, 3, 4, 4, 5, 6, 8)[self - 1]
+
 
 class Edition(IntEnum):
     """The editions of the sheet rules. Under the second a face lies between two solids at most."""

@@ -1,6 +1,7 @@
 """The refusals: one exception class each, with its number and its meaning.
 
-A refused call changes nothing, save a build that is refused at a record, a surface at a face, and a list of edits that is stopped.
+A refused call changes nothing, save a build that is refused at a record, a surface at a face, and a list of edits that is stopped; a wrong plan leaves
+the second memory with the mesh after the edits before.
 """
 
 from __future__ import annotations
@@ -12,7 +13,7 @@ class Refused(Exception):
     """A call was refused. `number` says why, `meaning` says it in words.
 
     `record` is the place of a build's refused record, `made` how many edits of a list were made before, and `place` where a surface's text or face
-    is refused; None for other calls.
+    is refused or a plan is wrong; None for other calls.
     """
 
     number: ClassVar[int] = 0
@@ -139,6 +140,11 @@ class JournalFull(Refused):
     meaning = "the journal is full"
 
 
+class PlanWrong(Refused):
+    number = 24
+    meaning = "an edit of the plan is wrong, or its end is not as wanted"
+
+
 REFUSALS: dict[int, type[Refused]] = {
     1: CapacityAbove,
     2: MemoryShort,
@@ -162,6 +168,7 @@ REFUSALS: dict[int, type[Refused]] = {
     21: DayFolded,
     22: FoldNotAllowed,
     23: JournalFull,
+    24: PlanWrong,
 }
 """The class of each number."""
 

@@ -431,6 +431,80 @@ class Licences(unittest.TestCase):
         self.assertEqual(kept.licences(0, 0), list(range(self.LARGEST - 127, self.LARGEST + 1)))
 
 
+class Plans(unittest.TestCase):
+    """Planned changes: the check and the planner."""
+
+    STANDS = (1, Type.TRIANGLE, [2, 1, 3], 7)
+    TURNED = Insert(0, Type.TRIANGLE, [0, 2, 1])
+    BAR = Insert(2, Type.BAR, [3, 4], 9)
+
+    def today(self):
+        mesh = Mesh.with_room(6, 4)
+        mesh.insert(0, Type.TRIANGLE, [0, 1, 2])
+        mesh.insert(*self.STANDS)
+        return mesh
+
+    def test_a_plan_passes(self):
+        today, wanted = self.today(), [self.BAR, self.STANDS, self.TURNED]
+        before = bytes(today.memory)
+        plan = today.plan(wanted)
+        self.assertEqual(plan, [Remove(0), self.BAR, self.TURNED])
+        second = bytearray(4 * room(6, 4))
+        after = today.check_plan(plan, wanted, second)
+        self.assertIs(after.memory, second)
+        self.assertEqual(([after.marks_of(cell) for cell in after], after.licence_of(1)), ([[0, 2, 1], [2, 1, 3], [3, 4]], 7))
+        built = Mesh(bytearray(4 * room(6, 4)))
+        built.build(6, 4, wanted)
+        self.assertEqual((second, bytes(today.memory)), (built.memory, before))
+        self.assertEqual(today.check_plan(plan, wanted).memory, second)
+        self.assertEqual((today.plan([]), Mesh.with_room(6, 4).plan([])), ([Remove(0), Remove(1)], []))
+        # every type there and back, with a licence
+        empty = Mesh.with_room(8, 7)
+        all_ = [Insert(kind - 1, kind, list(range(kind.marks)), 2**32 - kind) for kind in Type]
+        self.assertEqual(empty.plan(all_), all_)
+        self.assertEqual(empty.check_plan(all_, all_).live(), list(range(7)))
+
+    def test_a_wrong_plan_says_where(self):
+        today, wanted = self.today(), [self.BAR, self.STANDS, self.TURNED]
+        for edits, place, left in (
+            ([Remove(0), Remove(0), self.BAR], 1, [1]),
+            ([self.BAR, self.TURNED], 1, [0, 1, 2]),
+            ([Remove(0), self.BAR, self.TURNED._replace(kind=Type.QUAD)], 2, [1, 2]),
+            ([Remove(0), self.BAR], 2, [1, 2]),
+            ([Remove(0), self.BAR, self.TURNED._replace(licence=1)], 3, [0, 1, 2]),
+            ([], 0, [0, 1]),
+        ):
+            second = bytearray(4 * room(6, 4))
+            with self.assertRaises(mengkiloh.PlanWrong) as caught:
+                today.check_plan(edits, wanted, second)
+            self.assertEqual((caught.exception.place, Mesh(second).live()), (place, left))
+        with self.assertRaises(mengkiloh.PlanWrong):
+            today.check_plan([], [*(Insert(cell, today.type_of(cell), today.marks_of(cell), today.licence_of(cell)) for cell in today), self.STANDS])
+
+    def test_refused(self):
+        today, short = self.today(), bytearray(4 * room(6, 4) - 4)
+        unknown, cut = [(0, 8, [])], [(0, Type.QUAD, [0, 1, 2])]
+        for refused, mesh, wanted, second in (
+            (mengkiloh.NotMesh, Mesh(bytearray(60)), unknown, short),
+            (mengkiloh.MemoryShort, today, unknown, short),
+            (mengkiloh.TypeUnknown, today, unknown + cut, None),
+            (mengkiloh.CountWrong, today, cut, None),
+        ):
+            with self.assertRaises(refused) as caught:
+                mesh.check_plan([Remove(9)], wanted, second)
+            self.assertIsNone(caught.exception.place)
+            if refused is not mengkiloh.MemoryShort:
+                with self.assertRaises(refused):
+                    mesh.plan(wanted)
+        self.assertFalse(any(short))
+        with self.assertRaises(ValueError):
+            today.check_plan([], [], today.memory)
+        with self.assertRaises(ValueError):
+            today.plan([(2**32, Type.BAR, [0, 1])])
+        with self.assertRaises(TypeError):
+            today.check_plan([(2, 0)], [])
+
+
 class Days(unittest.TestCase):
     def test_the_map_on_any_day(self):
         mesh = triangles([0, 1, 2])

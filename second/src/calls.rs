@@ -223,7 +223,7 @@ impl Memory {
         answer
     }
 
-    fn one_by_one(&mut self, list: &[u32]) -> Result<usize, (Refusal, usize)> {
+    pub(crate) fn one_by_one(&mut self, list: &[u32]) -> Result<usize, (Refusal, usize)> {
         self.held().map_err(|refusal| (refusal, 0))?;
         let mut left = list;
         let mut made = 0;

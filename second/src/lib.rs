@@ -13,6 +13,7 @@
 //! - [`off`]: surfaces in and out as OFF text.
 //! - [`journal`]: the map on any day: edits with their days, begun, entered, asked, folded.
 //! - [`matcher`]: the licences to ask, for a mark and a day.
+//! - [`plan`]: planned changes, checked before the night, and a planner.
 //! - [`frames`]: the frame program, from input bytes to output bytes.
 
 #![forbid(unsafe_code)]
@@ -24,6 +25,7 @@ pub mod journal;
 pub mod map;
 pub mod matcher;
 pub mod off;
+pub mod plan;
 pub mod positions;
 pub mod refusal;
 pub mod shapes;

@@ -29,11 +29,12 @@ pub enum Refusal {
     DayFolded = 21,
     FoldNotAllowed = 22,
     JournalFull = 23,
+    PlanWrong = 24,
 }
 
 impl Refusal {
     /// All of them, by number.
-    pub const ALL: [Refusal; 23] = [
+    pub const ALL: [Refusal; 24] = [
         Refusal::CapacityAbove,
         Refusal::MemoryShort,
         Refusal::CellOutside,
@@ -57,6 +58,7 @@ impl Refusal {
         Refusal::DayFolded,
         Refusal::FoldNotAllowed,
         Refusal::JournalFull,
+        Refusal::PlanWrong,
     ];
 
     /// The number of the table.
@@ -98,6 +100,7 @@ impl Refusal {
             Refusal::DayFolded => "query: a day before the last fold",
             Refusal::FoldNotAllowed => "fold: not allowed, or no edit was ever entered",
             Refusal::JournalFull => "entry: the journal is full",
+            Refusal::PlanWrong => "plan: the first wrong edit, or an end that is not as wanted",
         }
     }
 }

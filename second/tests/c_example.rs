@@ -36,6 +36,8 @@ const RECORDS: [u32; 83] = [
 
 const CUT_SHORT: [u32; 11] = [0, TRI, 71, 0, 1, 2, 1, TRI, 71, 0, 2];
 
+const NO_SUCH_TYPE: [u32; 9] = [0, TRI, 71, 0, 1, 2, 1, 8, 71];
+
 /// Three solids on the face between the block and the pier.
 #[rustfmt::skip]
 const THIRD: [u32; 27] = [
@@ -93,6 +95,7 @@ fn text() -> String {
     lines.all_placed(&memory);
     lines.mornings(&mut memory);
     lines.complaints(&mut memory);
+    lines.nights(&memory);
     lines.0
 }
 
@@ -260,6 +263,50 @@ impl Lines {
         second.words += short;
         self.list(&format!("licences {day} {mark}"), answer);
         self.say("second", second.whole().into(), &[]);
+    }
+
+    fn nights(&mut self, memory: &Memory) {
+        let short = Memory {
+            words: memory.words - 1,
+            mesh: memory.mesh.clone(),
+        };
+        self.plan(&short, &CUT_SHORT, 0);
+        self.plan(memory, &CUT_SHORT, 0);
+        self.plan(memory, &NO_SUCH_TYPE, 0);
+        self.plan(memory, &RECORDS, 8);
+        let plan = self.plan(memory, &RECORDS, 9);
+        self.check(memory, &plan, &RECORDS, 0);
+        self.check(memory, &[], &RECORDS, 0);
+        self.check(memory, &plan[..plan.len() - 1], &RECORDS, 0);
+        self.check(memory, &plan, &THIRD, 0);
+        self.check(&short, &plan, &CUT_SHORT, 1);
+        self.check(memory, &plan, &CUT_SHORT, 1);
+        self.check(memory, &plan, &CUT_SHORT, 0);
+        self.check(memory, &plan, &NO_SUCH_TYPE, 0);
+        let plan = self.plan(memory, &THIRD, PLACES);
+        self.check(memory, &plan, &THIRD, 0);
+        self.check(memory, &plan[2..], &THIRD, 0);
+        self.check(memory, &plan[4..plan.len() - 9], &THIRD, 0);
+        self.check(memory, &plan[1..], &THIRD, 0);
+    }
+
+    fn plan(&mut self, memory: &Memory, wanted: &[u32], places: usize) -> Vec<u32> {
+        let answer = memory.plan(wanted, places);
+        self.list("plan", answer.clone());
+        answer.unwrap_or_default()
+    }
+
+    /// By how many words second memory is short.
+    fn check(&mut self, memory: &Memory, edits: &[u32], wanted: &[u32], short: usize) {
+        let words = room(MARKS, CELLS);
+        let mut second = Memory::lent(words - short);
+        let answer = memory.plan_check(edits, wanted, &mut second);
+        let place = answer.err().and_then(|(_, place)| place);
+        let refusal = answer.map_err(|(refusal, _)| refusal);
+        let place = word(place.map(|place| place as u32));
+        self.say("plan check", number(&refusal), &[place]);
+        second.words = words;
+        self.list("second", second.live(PLACES));
     }
 
     fn star(&mut self, memory: &Memory, dimension: u32, mark: u32, room: usize) {

@@ -129,6 +129,7 @@ fn the_refusals_are_the_outlines() {
 21: query: a day before the last fold
 22: fold: not allowed, or no edit was ever entered
 23: entry: the journal is full
+24: plan: the first wrong edit, or an end that is not as wanted
 ";
     let lines: String = Refusal::ALL
         .iter()

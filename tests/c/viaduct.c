@@ -40,6 +40,8 @@ static const uint32_t many[] = {12, 13, 14, 15, 16};
 
 static const uint32_t cut_short[] = {0, MK_TRI_3, 71, 0, 1, 2, 1, MK_TRI_3, 71, 0, 2};
 
+static const uint32_t no_such_type[] = {0, MK_TRI_3, 71, 0, 1, 2, 1, 8, 71};
+
 /* three solids on the face between the block and the pier */
 static const uint32_t third[] = {
     10, MK_HEXA_8, 73, 12, 13, 14, 15, 16, 17, 18, 19, /* */
@@ -63,6 +65,7 @@ static uint32_t start[WORDS];
 static uint32_t second[WORDS];
 static uint32_t list[PLACES];
 static uint32_t ways[PLACES];
+static uint32_t proposed[PLACES];
 static int16_t positions[3 * MARKS];
 
 static void say_number(uint32_t number)
@@ -422,6 +425,61 @@ static void complaints(void)
     complaint(41, 5, WORDS, 2);
 }
 
+/* a plan for the wanted cells, in so many places; how many words it has */
+static size_t plan(size_t words, const uint32_t *wanted, size_t count, size_t room)
+{
+    size_t written = UNWRITTEN;
+    uint8_t refusal = mk_plan(mesh, words, wanted, count, proposed, room, &written);
+    printf("plan");
+    say_list(refusal, proposed, (uint32_t)written);
+    return refusal == MK_ACCEPTED ? written : 0;
+}
+
+/* the check of that plan or a part of it, and the live cells of second memory then */
+static void check(size_t words, size_t from, size_t to, const uint32_t *wanted, size_t count, size_t second_words)
+{
+    size_t place = UNWRITTEN;
+    uint32_t live = UNWRITTEN;
+    for (size_t i = 0; i < WORDS; i++) {
+        second[i] = 0;
+    }
+    uint8_t refusal = mk_plan_check(mesh, words, proposed + from, to - from, wanted, count, second, second_words, &place);
+    printf("plan check: %u;", refusal);
+    say_number((uint32_t)place);
+    printf("\n");
+    refusal = mk_live(second, WORDS, list, PLACES, &live);
+    printf("second");
+    say_list(refusal, list, live);
+}
+
+/* The pier put up again, and then the pier and another one alone: plans, and each refusal. */
+static void nights(void)
+{
+    const size_t all = sizeof records / sizeof records[0];
+    const size_t three = sizeof third / sizeof third[0];
+    const size_t cut = sizeof cut_short / sizeof cut_short[0];
+    const size_t unknown = sizeof no_such_type / sizeof no_such_type[0];
+
+    plan(WORDS - 1, cut_short, cut, 0);
+    plan(WORDS, cut_short, cut, 0);
+    plan(WORDS, no_such_type, unknown, 0);
+    plan(WORDS, records, all, 8);
+    size_t end = plan(WORDS, records, all, 9);
+    check(WORDS, 0, end, records, all, WORDS);
+    check(WORDS, 0, 0, records, all, WORDS);
+    check(WORDS, 0, end - 1, records, all, WORDS);
+    check(WORDS, 0, end, third, three, WORDS);
+    check(WORDS - 1, 0, end, cut_short, cut, WORDS - 1);
+    check(WORDS, 0, end, cut_short, cut, WORDS - 1);
+    check(WORDS, 0, end, cut_short, cut, WORDS);
+    check(WORDS, 0, end, no_such_type, unknown, WORDS);
+    end = plan(WORDS, third, three, PLACES);
+    check(WORDS, 0, end, third, three, WORDS);
+    check(WORDS, 2, end, third, three, WORDS);
+    check(WORDS, 4, end - 9, third, three, WORDS);
+    check(WORDS, 1, end, third, three, WORDS);
+}
+
 int main(void)
 {
     const uint32_t wall[] = {0, 5, 10};
@@ -453,6 +511,7 @@ int main(void)
     all_placed();
     mornings();
     complaints();
+    nights();
     /* the header is that of the library */
     return mk_version() == MK_VERSION ? 0 : 1;
 }

@@ -15,6 +15,9 @@ use Rattle.map.specs.declared.Built.the-variants as Built′
 use Rattle.map.specs.declared.Edits.{Edits}
 use Rattle.map.specs.declared.Edits.the-variants as Edits′
 use Rattle.map.proofs.Refusals.{number-some}
+use Rattle.plan_check.specs.Checked.{plannedSays}
+use Rattle.plan_check.specs.declared.Planned.{Planned}
+use Rattle.plan_check.specs.declared.Planned.the-variants as Planned′
 use Rattle.surfaces.specs.ReadsOff.{broken, surfacedSays}
 use Rattle.surfaces.specs.declared.Surfaced.{Surfaced}
 use Rattle.surfaces.specs.declared.Surfaced.the-variants as Surfaced′
@@ -96,3 +99,8 @@ module _ (s : Surfaced) (x : ℕ) where
 pub written-other : (t : Written) (x : ℕ) → t ≡ Written′.NotSurface → Told (writtenSays t) x 18 x
 unfolding writtenSays first
 written-other t x e = record { number = rw e; value = rw e }
+
+-- a plan that is wrong has its place
+pub planned-wrong : (p : Planned) (x place : ℕ) → p ≡ Planned′.Wrong place → Told (plannedSays p) x 24 place
+unfolding plannedSays first
+planned-wrong p x place e = record { number = rw e; value = rw e }

@@ -1,14 +1,17 @@
 // Each kind of answer as a number and lent words: 0 with the value in its place, or the refusal's number.
 //
-// What is here: a function for each answer enum of crates/map, crates/positions, crates/surfaces and crates/surfaces_out. What is proved: the
-// number is the answer's refusal, and the lent word or float is the answer's value, or as it was where the answer has none (specs/Told.antt,
-// specs/Floats.antt). What a caller should know: a refused build has a value, the place of its record, a refused read its place, and a list of
-// edits has one always, the number made; every other answer has one only where it is accepted.
+// What is here: a function for each answer enum of crates/map, crates/positions, crates/surfaces, crates/surfaces_out, crates/plan_check and
+// crates/planner. What is proved: the number is the answer's refusal, and the lent word or float is the answer's value, or as it was where the answer
+// has none (specs/Told.antt, specs/Floats.antt). What a caller should know: a refused build has a value, the place of its record, a refused read its
+// place, a plan the place of its first wrong edit, and a list of edits has one always, the number made; every other answer has one only where it
+// is accepted.
 ghost use mathlib.Core.Path.{_≡_};
 ghost use Rattle.map.specs.Says.{numberOf, verdictSays, valueSays, pairSays, cellSays, halfSays, truthSays, builtSays, foundSays, editsSays};
+ghost use Rattle.plan_check.specs.Checked.{plannedSays};
 ghost use Rattle.positions.specs.Replies.{measureSays, centreSays};
 ghost use Rattle.surfaces.specs.ReadsOff.{surfacedSays};
 ghost use Rattle.surfaces_out.specs.WritesOff.{writtenSays};
+ghost use Rattle.planner.specs.Proposed.{proposalSays};
 ghost use Rattle.c_answers.specs.Told.{Told, ToldTwo, ToldFound};
 ghost use Rattle.c_answers.specs.Floats.{ToldMeasure, ToldPoint};
 use map::Built;
@@ -23,6 +26,8 @@ use map::Value;
 use map::Verdict;
 use map::number_of;
 use map::way_number;
+use plan_check::Planned;
+use planner::Proposal;
 use positions::Centred;
 use positions::Measured;
 use surfaces::Surfaced;
@@ -241,5 +246,35 @@ pub fn tell_written(t: Written, x: &mut usize) -> u8
         }
         Written::NotSurface => NOT_SURFACE,
         Written::Refused(why) => byte_of(why),
+    }
+}
+
+// The words of a plan.
+pub fn tell_proposal(p: Proposal, x: &mut usize) -> u8
+    ensures { λ r. ⌜ Told (proposalSays p) (now (x .entry)) r (now (x .exit)) ⌝ }
+{
+    match p {
+        Proposal::Words(words) => {
+            *x = words;
+            0
+        }
+        Proposal::Refused(why) => byte_of(why),
+    }
+}
+
+// "24 with the place (from 0) of the first wrong edit, or with the length of the list if only the end differs"
+const PLAN_WRONG: u8 = 24;
+
+// A plan that is right, or the place of its first wrong edit.
+pub fn tell_planned(p: Planned, x: &mut usize) -> u8
+    ensures { λ r. ⌜ Told (plannedSays p) (now (x .entry)) r (now (x .exit)) ⌝ }
+{
+    match p {
+        Planned::Yes => 0,
+        Planned::Wrong(edit) => {
+            *x = edit;
+            PLAN_WRONG
+        }
+        Planned::Refused(why) => byte_of(why),
     }
 }

@@ -7,3 +7,5 @@ pub mod Mornings
 pub mod Placed
 pub mod Surfaces
 pub mod Journals
+pub mod Planner
+pub mod Plans

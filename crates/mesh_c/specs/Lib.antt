@@ -4,4 +4,5 @@ pub mod Mornings
 pub mod Placed
 pub mod Surfaces
 pub mod Journals
+pub mod Plans
 pub mod Version

@@ -5,6 +5,6 @@ use Prim.Native.Nat.{ℕ, _+_, _*_}
 unfoldable pub versionOf : ℕ → ℕ → ℕ → ℕ
 versionOf major minor patch = (major * 256 + minor) * 256 + patch
 
--- 5.0.0
+-- 5.1.0
 unfoldable pub version : ℕ
-version = versionOf 5 0 0
+version = versionOf 5 1 0

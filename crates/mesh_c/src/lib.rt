@@ -3,7 +3,7 @@
 // What is here: a function for each public call, under its plain name, none with a `requires`. Each answers the refusal's number, 0 for
 // accepted, and gives its values through lent words. What is proved: the promise of the call it stands for, told by numbers; a refusal
 // leaves what was lent as it was, on any memory (specs/Answered.antt, specs/Changed.antt, specs/Placed.antt, specs/Surfaces.antt,
-// specs/Journals.antt). What a caller should know: a list is a pointer and a count of 32-bit words (of positions 16-bit numbers, of points
+// specs/Journals.antt, specs/Plans.antt). What a caller should know: a list is a pointer and a count of 32-bit words (of positions 16-bit numbers, of points
 // 64-bit floats, of text bytes), aligned to their size; what a call writes may not overlap anything else that is lent to it.
 ghost use mathlib.Core.Path.{_≡_};
 ghost use Rattle.numbers.specs.Half.{halfOf};
@@ -20,12 +20,16 @@ ghost use Rattle.journal.specs.Calls.{Begun, Entered};
 ghost use Rattle.year.specs.Calls.{OnDay, Folded};
 ghost use Rattle.matcher.specs.Complaint.{Named};
 ghost use Rattle.journal_whole.specs.Checks.{WholeJournal};
+ghost use Rattle.plan_check.specs.Checked.{PlanChecked};
+ghost use Rattle.planner.specs.Plan.{planWords};
+ghost use Rattle.planner.specs.Proposed.{plannerChecks};
 ghost use Rattle.positions.specs.Replies.{measureReply, centreReply};
 ghost use Rattle.mesh_c.specs.Answered.{Answered, Faced, Sought, Listed, ListedTwo, MarksTold, Judged};
 ghost use Rattle.mesh_c.specs.Changed.{Emptied, Raised, Changed};
 ghost use Rattle.mesh_c.specs.Journals.{ByNumber, ByCount, ByBit};
 ghost use Rattle.mesh_c.specs.Mornings.{EditsTold};
 ghost use Rattle.mesh_c.specs.Placed.{Sized, Centre, Corners};
+ghost use Rattle.mesh_c.specs.Plans.{ByPlace};
 ghost use Rattle.mesh_c.specs.Surfaces.{SurfaceRead, SurfaceWritten};
 ghost use Rattle.mesh_c.specs.Version.{version};
 use ask::border;
@@ -45,6 +49,8 @@ use c_answers::tell_found;
 use c_answers::tell_half;
 use c_answers::tell_measure;
 use c_answers::tell_pair;
+use c_answers::tell_planned;
+use c_answers::tell_proposal;
 use c_answers::tell_surfaced;
 use c_answers::tell_truth;
 use c_answers::tell_value;
@@ -74,6 +80,8 @@ use mesh::insert_licensed;
 use mesh::remove;
 use numbers::Cell;
 use numbers::Mark;
+use plan_check::plan_check;
+use planner::plan;
 use positions::centre;
 use positions::measure;
 use positions::points;
@@ -373,7 +381,7 @@ pub extern "C" fn mk_live(mesh: &[u32], out: &mut [u32], count: &mut u32) -> u8
 pub extern "C" fn mk_version() -> u32
     ensures { λ r. ⌜ r ≡ version ⌝ }
 {
-    0x050000
+    0x050100
 }
 
 // The corners of a cell as points, three floats each.
@@ -496,6 +504,28 @@ pub extern "C" fn mk_journal_on(journal: &[u32], start: &[u32], day: u32, second
     ensures { λ r. ⌜ ByNumber (λ v. OnDay (now (journal .entry)) (now (start .entry)) day (now (second .entry)) v (now (second .exit))) r ⌝ }
 {
     tell_verdict(map_on(journal, start, day, second))
+}
+
+// Whether the edits of a plan take today's map to the wanted cells, tried in second memory; where not, the place of the first wrong edit.
+#[no_mangle]
+pub extern "C" fn mk_plan_check(
+    mesh: &[u32],
+    edits: &[u32],
+    wanted: &[u32],
+    second: &mut [u32],
+    place: &mut usize,
+) -> u8
+    ensures { λ r. ⌜ ByPlace (λ p. PlanChecked (now (mesh .entry)) (now (edits .entry)) (now (wanted .entry)) (now (second .entry)) p (now (second .exit))) (now (place .entry)) r (now (place .exit)) ⌝ }
+{
+    tell_planned(plan_check(mesh, edits, wanted, second), place)
+}
+
+// The plan for a wanted list, written as the words of a list of edits, and how many words it has.
+#[no_mangle]
+pub extern "C" fn mk_plan(mesh: &[u32], wanted: &[u32], out: &mut [u32], count: &mut usize) -> u8
+    ensures { λ r. ⌜ Listed (now (mesh .entry)) (λ m. plannerChecks (now (wanted .entry))) (λ m. planWords m (now (wanted .entry))) (now (out .entry)) (now (count .entry)) r (now (out .exit)) (now (count .exit)) ⌝ }
+{
+    tell_proposal(plan(mesh, wanted, out), count)
 }
 
 // The licences of the cells around a mark on a day, and that day's mesh.

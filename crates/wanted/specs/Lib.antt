@@ -1,0 +1,3 @@
+pub mod Wanted
+pub mod Plans
+pub mod Records
