@@ -43,10 +43,10 @@ fn found() -> Option<(PathBuf, &'static str)> {
         return Some((folder, kind?));
     }
     let made = Path::new(env!("CARGO_MANIFEST_DIR")).join("../target/mengkiloh");
-    println!("cargo:rerun-if-changed={}", made.display());
     if let Some(kind) = held(&made) {
         return Some((made, kind));
     }
+    println!("cargo:rerun-if-changed={}", made.display());
     let asked = Command::new("pkg-config")
         .args(["--variable=libdir", "mengkiloh"])
         .output()

@@ -3,10 +3,11 @@
 //! what request 11 asks; with `once` and the name of a map, its edits made once, to be
 //! counted from outside; with `journal`, the map on any day; with `complaint`, the
 //! licences to ask; with `plan`, planned changes and their check; with `off` and files
-//! of surfaces, surfaces read and written.
+//! of surfaces, surfaces read and written; with `desk`, the complaint desk's commands.
 
 mod clock;
 mod complaint;
+mod desk;
 mod facet_map;
 mod facet_sets;
 mod journal;
@@ -50,6 +51,7 @@ fn main() {
                 std::process::exit(1);
             }
         }
+        Some((word, _)) if word == "desk" => desk::run(),
         _ => calls(),
     }
 }
