@@ -171,7 +171,11 @@ enum mk_way {
     MK_NEITHER = 3
 };
 
-/* The words that a mesh of these capacities takes, each capacity 0 to 65,535. */
+/*
+ * The words that a mesh of these capacities takes, each capacity 0 to 65,535. They may lie anywhere.
+ * Edits of a large mesh are a tenth faster where word MK_ROOM(marks, 0), the first cell's, is at an
+ * address that is a multiple of 64: each cell's record is then one cache line.
+ */
 #define MK_ROOM(marks, cells) ((size_t)16 + (size_t)8 * (size_t)(marks) + (size_t)32 * (size_t)(cells))
 
 /* The number of a cell's local facet, and back: half-facet number = 8 * cell + local facet. */

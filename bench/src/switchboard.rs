@@ -5,7 +5,7 @@
 use crate::clock::{best, busy};
 use crate::facet_sets::FacetSets;
 use crate::maps::{bricks, crowded, grid, surface, tetrahedra, Body, Chance, Map};
-use mengkiloh::{room, Cell, Mesh};
+use mengkiloh::{Cell, Lines, Mesh};
 use std::hint::black_box;
 
 /// "10,000 mixed edits"
@@ -121,8 +121,9 @@ fn measured(maps: [Map; 2]) -> [(Figures, Figures); 2] {
 fn our_round(map: &Map, anywhere: &Edits, clustered: &Edits) -> Figures {
     let cells = map.cells.len() as u32;
     let records = map.records();
-    let mut words = vec![1; room(map.marks, cells)];
-    words.fill(black_box(0));
+    let mut words = Lines::of(map.marks, cells);
+    words.as_mut().fill(black_box(1));
+    words.as_mut().fill(black_box(0));
     let mut mesh = Mesh::over(words);
     let build = busy(|| {
         let built = mesh.build(map.marks, cells, black_box(&records));

@@ -50,6 +50,7 @@
 
 mod calls;
 mod journal;
+mod lines;
 mod lists;
 mod numbers;
 mod plan;
@@ -65,6 +66,7 @@ struct Readme;
 use std::fmt;
 
 pub use journal::{journal_words, Journal};
+pub use lines::Lines;
 pub use lists::{Live, Walk};
 use numbers::Register;
 pub use numbers::{Cell, Half, Licence, Mark, Way};
@@ -273,8 +275,8 @@ impl fmt::Display for EditsStopped {
 
 impl std::error::Error for EditsStopped {}
 
-/// A mesh over words: a `Vec<u32>` of its own, or `&mut [u32]` or `&[u32]`
-/// that are lent to it.
+/// A mesh over words: a `Vec<u32>` or [`Lines`] of its own, or `&mut [u32]` or
+/// `&[u32]` that are lent to it.
 #[derive(Clone, Debug)]
 pub struct Mesh<W> {
     words: W,
