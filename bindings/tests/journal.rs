@@ -5,11 +5,10 @@ mod common;
 
 use std::collections::BTreeSet;
 
-use common::{draw_licence, is_map, marks, ours, theirs, told, Chance, Question, SENTINEL};
+use common::{draw_edit, is_map, marks, ours, theirs, told, Chance, Question, SENTINEL};
 use mengkiloh::{journal_words, room, Cell, Journal, Licence, Mesh};
 use second::journal::{Edit, Journal as TheirJournal, EDIT_WORDS, HEAD_WORDS};
 use second::Memory;
-use streams::lattice;
 
 /// Sentinels before and behind each memory.
 const PAD: usize = 24;
@@ -206,24 +205,6 @@ fn journal_of(journal: &TheirJournal) -> Vec<u32> {
     words
 }
 
-/// An edit of a map of these capacities, mostly one that is accepted.
-fn draw(chance: &mut Chance, of: (u32, u32), theirs: &Memory) -> Edit {
-    let live = &theirs.mesh.as_ref().expect("a mesh").live;
-    if chance.below(of.1) < live.len() as u32 {
-        let cell = live[chance.below(live.len() as u32) as usize].number.0;
-        return Edit::Remove { cell };
-    }
-    let (code, marks) = lattice::draw(chance, lattice::side(of.0));
-    let cell = chance.below(of.1);
-    let licence = draw_licence(chance);
-    Edit::Insert {
-        cell,
-        code,
-        licence,
-        marks,
-    }
-}
-
 /// Two years, with a fold each day once one is allowed.
 #[test]
 fn two_years_of_300_edits_a_day() {
@@ -240,7 +221,7 @@ fn two_years_of_300_edits_a_day() {
     for day in 0..DAYS {
         let mut made = 0;
         while made < A_DAY {
-            let edit = draw(&mut chance, (OF.0, OF.1), &desk.their_mesh);
+            let edit = draw_edit(&mut chance, (OF.0, OF.1), &desk.their_mesh);
             made += usize::from(desk.make(&Call::Enter(day, edit)) == 0);
         }
         entered += made;
@@ -342,7 +323,7 @@ fn journals_by_chance() {
                         2..=4 => day + chance.below(200),
                         _ => day + chance.below(2),
                     };
-                    Call::Enter(day, draw(&mut chance, OF, &desk.their_mesh))
+                    Call::Enter(day, draw_edit(&mut chance, OF, &desk.their_mesh))
                 }
             };
             let number = desk.make_and_look(&call);
@@ -595,7 +576,7 @@ fn a_day_tells_the_second_program_s_cells() {
     let mut chance = Chance::from_seed(3);
     let mut desk = Desk::begun((27, 24, 2), journal_words(400));
     for day in 0..200 {
-        let edit = draw(&mut chance, (27, 24), &desk.their_mesh);
+        let edit = draw_edit(&mut chance, (27, 24), &desk.their_mesh);
         desk.make(&Call::Enter(day, edit));
     }
     for day in 0..200 {

@@ -6,11 +6,10 @@ mod common;
 
 use std::collections::BTreeSet;
 
-use common::{draw_licence, is_map, marks, Chance, SENTINEL};
+use common::{draw_edit, is_map, marks, Chance, SENTINEL};
 use mengkiloh::{journal_words, room, Cell, Journal, Licence, Mark, Mesh, Records, Refusal, Type};
 use second::journal::{Edit, Journal as TheirJournal};
 use second::Memory;
-use streams::lattice;
 
 /// A journal with its starting map, here and in the second program, and the mesh that
 /// its edits go to.
@@ -141,24 +140,6 @@ impl Desk {
     }
 }
 
-/// An edit of a map of these capacities, mostly one that is accepted.
-fn draw(chance: &mut Chance, of: (u32, u32), theirs: &Memory) -> Edit {
-    let live = &theirs.mesh.as_ref().expect("a mesh").live;
-    if chance.below(of.1) < live.len() as u32 {
-        let cell = live[chance.below(live.len() as u32) as usize].number.0;
-        return Edit::Remove { cell };
-    }
-    let (code, marks) = lattice::draw(chance, lattice::side(of.0));
-    let cell = chance.below(of.1);
-    let licence = draw_licence(chance);
-    Edit::Insert {
-        cell,
-        code,
-        licence,
-        marks,
-    }
-}
-
 #[test]
 fn complaints_by_chance() {
     const OF: (u32, u32) = (27, 24);
@@ -175,7 +156,7 @@ fn complaints_by_chance() {
                 1..=6 => chance.below(9),
                 _ => 0,
             };
-            let edit = draw(&mut chance, OF, &desk.their_mesh);
+            let edit = draw_edit(&mut chance, OF, &desk.their_mesh);
             desk.enter(day, &edit);
             if chance.one_in(12) {
                 desk.fold((day + 1).saturating_sub(366 + chance.below(3)));
@@ -369,7 +350,7 @@ fn damaged_memory_is_safe() {
     for _ in 0..60 {
         let mut desk = Desk::begun(OF, 1, 30);
         for day in 0..30 {
-            let edit = draw(&mut chance, OF, &desk.their_mesh);
+            let edit = draw_edit(&mut chance, OF, &desk.their_mesh);
             desk.enter(day, &edit);
         }
         for _ in 0..200 {

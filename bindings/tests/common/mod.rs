@@ -5,11 +5,13 @@
 use std::sync::OnceLock;
 
 use mengkiloh::{off_room, room, Cell, Half, Licence, Mark, Measure, Mesh, Records, Refusal};
+use second::journal::Edit;
 use second::map::LiveCell;
 use second::positions::float;
 use second::shapes::type_with_code;
 use second::Memory;
 pub use streams::chance::Chance;
+use streams::lattice;
 
 pub const SENTINEL: u32 = 0xdead_beef;
 
@@ -85,6 +87,24 @@ pub fn draw_licence(chance: &mut Chance) -> u32 {
         1 => 1 + chance.below(3),
         2 => u32::MAX - chance.below(2),
         _ => chance.bits() as u32,
+    }
+}
+
+/// An edit of a map of these capacities, mostly one that is accepted.
+pub fn draw_edit(chance: &mut Chance, of: (u32, u32), theirs: &Memory) -> Edit {
+    let live = &theirs.mesh.as_ref().expect("a mesh").live;
+    if chance.below(of.1) < live.len() as u32 {
+        let cell = live[chance.below(live.len() as u32) as usize].number.0;
+        return Edit::Remove { cell };
+    }
+    let (code, marks) = lattice::draw(chance, lattice::side(of.0));
+    let cell = chance.below(of.1);
+    let licence = draw_licence(chance);
+    Edit::Insert {
+        cell,
+        code,
+        licence,
+        marks,
     }
 }
 
