@@ -3,7 +3,7 @@
 mod common;
 
 use common::maps::*;
-use common::pairs::{Pairs, EDITION, MISSING};
+use common::pairs::*;
 use common::random::Random;
 use second::shapes::type_with_code;
 use second::{room, Memory, Refusal, Tally};
@@ -146,11 +146,6 @@ fn a_list_is_its_edits_in_order() {
     assert_eq!(after, one_by_one(&empty, &edits[..2]).1);
 }
 
-/// Type and marks of a record, or words that are no record, and their faults.
-type Choice<T> = (T, &'static [u8]);
-
-const ABOVE_ALL: u32 = 70_000;
-
 /// Words of one edit behind a good one, which is made. Of an insert the map with
 /// a full mark and full faces, under edition 2.
 #[test]
@@ -159,36 +154,7 @@ fn an_inserts_6_7_3_4_6_7_8_9_10_19_11() {
     let mut pairs = Pairs::in_order(order);
     let kinds: [Choice<u32>; 4] = [(1, &[]), (0, &[KIND]), (3, &[KIND]), (257, &[KIND])];
     let cells: [Choice<u32>; 3] = [(150, &[]), (ABOVE_ALL, &[3]), (0, &[4])];
-    let rest: Vec<Choice<&[u32]>> = vec![
-        (&[TRI, 7, 3, 4, 5], &[]),
-        (&[], &[MISSING]),
-        (&[TRI], &[MISSING]),
-        (&[258], &[MISSING, 6]),
-        (&[258, 7, 3, 4, 5], &[6]),
-        (&[TRI, 7, 3, 4], &[7]),
-        (&[TRI, 7], &[7]),
-        (&[TRI, 7, 3, 4, ABOVE_ALL], &[8]),
-        (&[TRI, 7, 3, 4, 4], &[9]),
-        (&[TRI, 7, 2, 0, 1], &[10]),
-        (&[TETRA, 7, 160, 161, 162, 170], &[19]),
-        (&[TRI, 7, 3, 4, 10], &[11]),
-        (&[258, 7], &[6, 7]),
-        (&[258, 7, 3, 4, ABOVE_ALL], &[6, 8]),
-        (&[258, 7, 3, 3, 4], &[6, 9]),
-        (&[258, 7, 10, 4, 5], &[6, 11]),
-        (&[TRI, 7, ABOVE_ALL, 4], &[7, 8]),
-        (&[TRI, 7, 3, 3], &[7, 9]),
-        (&[TETRA, 7, 160, 161, 162], &[7, 19]),
-        (&[TRI, 7, 10, 3], &[7, 11]),
-        (&[TRI, 7, 3, 3, ABOVE_ALL], &[8, 9]),
-        (&[TETRA, 7, 160, 161, 162, ABOVE_ALL], &[8, 19]),
-        (&[TRI, 7, 10, 3, ABOVE_ALL], &[8, 11]),
-        (&[TETRA, 7, 160, 161, 162, 160], &[9, 19]),
-        (&[TRI, 7, 10, 3, 3], &[9, 11]),
-        (&[TETRA, 7, 163, 162, 161, 160], &[10, 19]),
-        (&[BAR, 7, 30, 10], &[10, 11]),
-        (&[TETRA, 7, 10, 165, 166, 170], &[19, 11]),
-    ];
+    let rest = [after_the_number(), third_solids_after_the_number()].concat();
     let memories: [Choice<Memory>; 2] = [
         (with_full_face(), &[]),
         (Memory::lent(room(200, 200)), &[14]),
@@ -218,9 +184,7 @@ fn an_inserts_6_7_3_4_6_7_8_9_10_19_11() {
             }
         }
     }
-    const NO_LIVE_CELL: &str = "without a mesh no cell is live";
     const NO_TYPE: &str = "an edit without its type or its licence has no marks";
-    const LIVE_IS_BELOW: &str = "a live number is below the capacity";
     const UNKNOWN: &str = "an unknown type has no live cell and no faces";
     const TOO_FEW: &str = "a list cut short has fewer marks than a live cell of its type";
     const LIVE_MARKS: &str = "the marks of a live cell are below the capacity and differ";

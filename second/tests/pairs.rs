@@ -8,15 +8,9 @@
 mod common;
 
 use common::maps::*;
-use common::pairs::{Pairs, EDITION, MISSING};
+use common::pairs::*;
 use second::{room, Memory, Refusal, Walker};
 
-/// A value of an argument and the faults it brings.
-type Choice<T> = (T, &'static [u8]);
-
-const ABOVE_ALL: u32 = 70_000;
-const NO_LIVE_CELL: &str = "without a mesh no cell is live";
-const LIVE_IS_BELOW: &str = "a live number is below the capacity";
 const NO_CELL_OF_IT: &str = "no live cell is of an unknown type";
 const NO_FACE_OF_IT: &str = "an unknown type has no faces";
 const LIVE_MARKS_ARE_BELOW: &str = "the marks of a live cell are below the capacity";
@@ -239,48 +233,6 @@ fn insert_under_edition_2_3_4_6_7_8_9_10_19_11() {
         (8, 10, LIVE_MARKS_ARE_BELOW),
         (9, 10, LIVE_MARKS_DIFFER),
     ]);
-}
-
-/// The words of a last record after its number.
-fn after_the_number() -> Vec<Choice<&'static [u32]>> {
-    vec![
-        (&[TRI, 7, 3, 4, 5], &[]),
-        (&[], &[MISSING]),
-        (&[TRI], &[MISSING]),
-        (&[258], &[MISSING, 6]),
-        (&[258, 7, 3, 4, 5], &[6]),
-        (&[TRI, 7, 3, 4], &[7]),
-        (&[TRI, 7], &[7]),
-        (&[TRI, 7, 3, 4, ABOVE_ALL], &[8]),
-        (&[TRI, 7, 3, 4, 4], &[9]),
-        (&[TRI, 7, 2, 0, 1], &[10]),
-        (&[TRI, 7, 3, 4, 10], &[11]),
-        // An unknown type is 6 whatever follows its licence, also nothing.
-        (&[258, 7], &[6, 7]),
-        (&[258, 7, 3, 4, ABOVE_ALL], &[6, 8]),
-        (&[258, 7, 3, 3, 4], &[6, 9]),
-        (&[258, 7, 10, 4, 5], &[6, 11]),
-        (&[TRI, 7, ABOVE_ALL, 4], &[7, 8]),
-        (&[TRI, 7, 3, 3], &[7, 9]),
-        (&[TRI, 7, 10, 3], &[7, 11]),
-        (&[TRI, 7, 3, 3, ABOVE_ALL], &[8, 9]),
-        (&[TRI, 7, 10, 3, ABOVE_ALL], &[8, 11]),
-        (&[TRI, 7, 10, 3, 3], &[9, 11]),
-        (&[BAR, 7, 30, 10], &[10, 11]),
-    ]
-}
-
-/// The same of a third solid on a face.
-fn third_solids_after_the_number() -> Vec<Choice<&'static [u32]>> {
-    vec![
-        (&[TETRA, 7, 160, 161, 162, 170], &[19]),
-        (&[PYRA, 7, 160, 170, 171, 161, 162], &[19]),
-        (&[TETRA, 7, 160, 161, 162], &[7, 19]),
-        (&[TETRA, 7, 160, 161, 162, ABOVE_ALL], &[8, 19]),
-        (&[TETRA, 7, 160, 161, 162, 160], &[9, 19]),
-        (&[TETRA, 7, 163, 162, 161, 160], &[10, 19]),
-        (&[TETRA, 7, 10, 165, 166, 170], &[19, 11]),
-    ]
 }
 
 /// The faults stand in the last record, after the 129 of the full mark. With 1
