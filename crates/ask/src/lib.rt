@@ -4,6 +4,8 @@
 // What is here: the public calls, none with a `requires`, and the walker. What is proved: memory that is no mesh is refused with 14; on
 // well-formed memory the answer, with its refusals in the listed order, is that of crates/map/specs/Answers.antt (specs/Asked.antt). What a
 // caller should know: each costs a few words read, whatever the size of the mesh, save for the free cell, which looks at every cell below it.
+#![tactic(auto)]
+
 ghost use Rattle.map.specs.Answers.{type_answer, licence_answer, sibling_answer, border_answer, first_anchor_answer, count_answer, edition_answer, step_answer};
 ghost use Rattle.map.specs.Free.{capacities_answer, free_answer};
 ghost use Rattle.map.specs.Says.{value_says, pair_says, cell_says, half_says, truth_says, found_says};
@@ -142,11 +144,11 @@ pub fn free(w: &[u32]) -> CellAt
 }
 
 // A walker over one sibling cycle: its place.
-#[derive(Drop)]
+#[derive(Clone, Copy)]
 pub struct Walker(pub Half);
 
 // A walker's step: the walker at the next place and the way that this runs beside the last, or why there is none.
-#[derive(Drop)]
+#[derive(Clone, Copy)]
 pub enum Step {
     Next(Walker, Way),
     Refused(Refusal),

@@ -5,6 +5,8 @@
 // proved: on the picture of a settled state `ends_of` gives the definition's, and where `all_out` says yes, the group of each cell before has a
 // border at the mark (specs/First.antt); the first anchor is the least border at the mark, or the least half-facet at it of a group without one
 // (proofs/Firsts.antt). What a caller should know: a no of `all_out` says nothing; a walk takes 32 steps at most; nothing is listed or cleared.
+#![tactic(auto)]
+
 ghost use Rattle.std.specs.Prelude.{◌≡◌, false, cond, ◌&&◌, ◌%◌, eqb};
 ghost use Rattle.shapes.specs.Shapes.{shape};
 ghost use Rattle.shapes.specs.Sizes.{most_marks};
@@ -20,7 +22,7 @@ use store::{code_of, corner_of, first_of, link_of, sibling_of};
 const MOST_STEPS: u32 = 32;
 
 // The first half-facet of a star at the mark, and the first border at it, each as number + 1; 0 for none.
-#[derive(Drop)]
+#[derive(Clone, Copy)]
 pub struct Ends {
     pub any: u32,
     pub border: u32,

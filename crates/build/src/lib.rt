@@ -5,6 +5,8 @@
 // first refused record; a build that its format refuses changes nothing; nothing beyond the room changes; the memory left is the
 // well-formed one of the built mesh, or of the mesh of that edition with no live cell (specs/Builds.antt). What a caller should know: a
 // record cut off at the end is refused with 7 unless a check before that one fails, and a refused build formats once more.
+#![tactic(auto)]
+
 ghost use Rattle.std.specs.Prelude.{◌≡◌, ◌+◌, min, length};
 ghost use Rattle.numbers.specs.Sizes.{caps_under, capacities};
 ghost use Rattle.build.specs.Builds.{Builds};

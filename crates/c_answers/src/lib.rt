@@ -5,6 +5,8 @@
 // has none (specs/Told.antt, specs/Floats.antt). What a caller should know: a refused build has a value, the place of its record, a refused read its
 // place, a plan the place of its first wrong edit, and a list of edits has one always, the number made; every other answer has one only where it
 // is accepted.
+#![tactic(auto)]
+
 ghost use Rattle.std.specs.Prelude.{◌≡◌};
 ghost use Rattle.map.specs.Says.{number_of, verdict_says, value_says, pair_says, cell_says, half_says, truth_says, built_says, found_says, edits_says};
 ghost use Rattle.plan_check.specs.Checked.{planned_says};

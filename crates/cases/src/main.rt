@@ -2,6 +2,8 @@
 //
 // What is here: a table of cases (what each is built from), a table of edits tried after the build, and for each kind of answer a function
 // that prints it. What is proved: the program is safe and ends. What it prints is held to `stdout`, which the second program writes.
+#![tactic(auto)]
+
 use ask::{
     Step, Walker, border, capacities, count_of_type, edition, first_anchor, free, marks_of,
     sibling, type_of,

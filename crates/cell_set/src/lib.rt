@@ -3,6 +3,8 @@
 // What is here: `put_cell` adds a cell to the set, `has_cell` tells whether it is in it. Both are total: any bytes, any number. What is proved:
 // the answer, and every byte as it is left, is an equation with specs/CellSet.antt or with the library; proofs/Sets.antt has what a set is after
 // a cell was added. What a caller should know: bytes of 0 are the empty set; a number past the end is never in it.
+#![tactic(auto)]
+
 ghost use Rattle.std.specs.Prelude.{◌≡◌, set};
 ghost use Rattle.cell_set.specs.CellSet.{in_set};
 

@@ -5,6 +5,8 @@
 // (specs/Chain.antt, specs/Walk.antt), and a writing function leaves the picture of the state with that one cell in the chain, or out of it
 // (`with_link`). What a caller should know: a link says the cell and its corner, so that a step reads one word; at most 128 links are
 // followed; on a state that does not allow the step (`MayLink`) it is only sure that no word outside the room changes.
+#![tactic(auto)]
+
 ghost use Rattle.std.specs.Prelude.{◌≡◌, true, false, ◌*◌, ◌≤◌};
 ghost use Rattle.picture.specs.Changes.{with_link};
 ghost use Rattle.picture.specs.Step.{Step};
@@ -19,7 +21,7 @@ use words::{put, word};
 const MOST_STEPS: u32 = 12;
 
 // Where a cell stands in a chain, or would: the link to the cell before it, and the link to the first one from it on; 0 for none.
-#[derive(Drop)]
+#[derive(Clone, Copy)]
 pub struct Spot {
     pub before: u32,
     pub after: u32,

@@ -4,6 +4,8 @@
 // (7, 8, 9) one function, which gives the capacities or says why not; memory that is no mesh is 14. They write nothing. What is
 // proved: on well-formed memory the answer is that of the outline's row (specs/Opening.antt); capacities are given only of memory that is
 // a mesh. What a caller should know: a new question of one of these kinds begins with its function, and ends with its value.
+#![tactic(auto)]
+
 ghost use Rattle.map.specs.Answers.{cell_checks, half_checks, star_checks, set_checks, type_checks};
 ghost use Rattle.checks.specs.Checked.{Checked};
 ghost use Rattle.checks.specs.Opening.{Opens};
@@ -15,7 +17,7 @@ use shapes::{MOST_CORNERS, dimension, facet_count};
 use store::{Opened, code_of, open};
 
 // What opens a call: the capacities, or why it is refused.
-#[derive(Drop)]
+#[derive(Clone, Copy)]
 pub enum Opening {
     Open(Caps),
     Refused(Refusal),

@@ -5,3 +5,4 @@
 // edit gets the same answer before the other and after it (Kept); the two orders leave one map (Swapped) and one memory, word for word, in the
 // room and beyond, so every query answers alike and the live counts are equal (Either); so do two lists of edits, of one edit or more, each
 // up to its first refusal (Lists), and made by `edits` they leave one memory and one tally (Tallies).
+#![tactic(auto)]

@@ -5,6 +5,8 @@
 // the piece (specs/Turns.antt, proofs/Output.antt). What is not: that `read` and `write` move those bytes, docs/GAPS.md. What a user should
 // know: every line that has come is answered before more input is waited for; a read or write that fails ends the program with a line on
 // standard error. What it writes for `stdin` is held to `stdout`, the worked example of the outline.
+#![tactic(auto)]
+
 ghost use Rattle.std.specs.Prelude.{◌≡◌, length};
 ghost use Rattle.reply.specs.Memory.{memory};
 ghost use Rattle.desk.specs.Turns.{Answered, EndAnswered, AfterRead, Turned, Served, Ran};
@@ -14,7 +16,7 @@ use libc::{STDIN_FILENO, STDOUT_FILENO};
 
 // Where the program stands after a turn: whether it goes on, whether the input has ended, how many bytes of its line are kept, from where
 // up to where its piece is not taken yet, and how many bytes the turn wrote.
-#[derive(Drop)]
+#[derive(Clone, Copy)]
 struct Turn {
     on: bool,
     ended: bool,
@@ -25,7 +27,7 @@ struct Turn {
 }
 
 // What became of a text: whether all of it was written, and how many bytes it has.
-#[derive(Drop)]
+#[derive(Clone, Copy)]
 struct Sent {
     whole: bool,
     bytes: usize,

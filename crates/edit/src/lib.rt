@@ -5,6 +5,8 @@
 // left is the picture of the state so changed, and on any memory nothing beyond the room changes; the laws of a whole insertion and a
 // whole removal are in proofs/Inserts.antt and proofs/Removes.antt. What a caller should know: only the first eight marks are read, and
 // no type has more; the body is written before the chains, and taken after them.
+#![tactic(auto)]
+
 ghost use Rattle.std.specs.Prelude.{◌<◌};
 ghost use Rattle.picture.specs.Step.{Step};
 ghost use Rattle.edit.specs.Edit.{with_links, MayLinks};

@@ -6,6 +6,8 @@
 // the room changes, and what stands in it is what the single edits leave (specs/InTurn.antt); on well-formed memory answer and memory are those
 // of `morning`, which folds the single edits; the tally's new value is `tally_after` of its old one and the answer (specs/Counts.antt). What a
 // caller should know: no answer looks at the tally; 14 adds one refused; a list of one edit is how a single edit is tallied.
+#![tactic(auto)]
+
 ghost use Rattle.std.specs.Prelude.{◌≡◌};
 ghost use Rattle.map.specs.Morning.{read_from};
 ghost use Rattle.edits.specs.Counts.{counted, tally_after};
@@ -20,14 +22,14 @@ use store::{Opened, open, room_of};
 use words::{part, word};
 
 // The desk's tally: how many edits were accepted and how many refused.
-#[derive(Drop)]
+#[derive(Clone, Copy)]
 pub struct Tally {
     pub accepted: u32,
     pub refused: u32,
 }
 
 // One edit of a list: how many words it takes behind its kind, or why it is refused.
-#[derive(Drop)]
+#[derive(Clone, Copy)]
 enum Step {
     Made(usize),
     Refused(Refusal),

@@ -5,6 +5,8 @@
 // total on any memory. What is proved: each answer is that of specs/Facet.antt, on any memory and any table; on the picture of a map
 // these are the facets of the definitions (proofs/Read.antt). What a caller should know: the table is handed down, so that it is copied
 // once a call; `facet_has` and `matching` copy no mark.
+#![tactic(auto)]
+
 ghost use Rattle.std.specs.Prelude.{◌≡◌, ◌∷◌, min};
 ghost use Rattle.lists.specs.Lists.{has, all, same_set, select, first};
 ghost use Rattle.lists.specs.Filled.{Copied};

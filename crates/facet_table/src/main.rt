@@ -1,4 +1,6 @@
 // Prints the facet numbering from the proved table: a line for each type, in code order.
+#![tactic(auto)]
+
 use libc::STDOUT_FILENO;
 use shapes::{CODES, FacetTable};
 

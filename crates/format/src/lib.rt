@@ -3,6 +3,8 @@
 // What is here: `format_edition` writes the head and clears the room; `format` does so under edition 1. They have no `requires`. What is
 // proved: the answer of the outline; a refusal changes nothing; nothing beyond the room changes; an accepted format leaves the well-formed
 // memory of the empty map (specs/Formatted.antt). What a caller should know: the cost is that of the room.
+#![tactic(auto)]
+
 ghost use Rattle.std.specs.Prelude.{◌≡◌, ◌≤◌};
 ghost use Rattle.numbers.specs.Sizes.{caps_under, capacities};
 ghost use Rattle.format.specs.Formatted.{Formatted};

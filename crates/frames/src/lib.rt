@@ -5,6 +5,8 @@
 // lent keeps its length and all else in it (specs/Forms.antt). What a caller should know: `read` takes the line without its end; an insert
 // names 13 marks at most, which stand in the first places of the lent words; a writer answers the place after its bytes, and 775 bytes
 // hold any answer (proofs/Sizes.antt).
+#![tactic(auto)]
+
 ghost use Rattle.std.specs.Prelude.{◌≡◌, [], ◌∷◌, ◌%◌, get_or};
 ghost use Rattle.map.specs.Says.{given, verdict_says};
 ghost use Rattle.map.specs.Ways.{way_number};
@@ -16,7 +18,7 @@ use numbers::{Cell, Half, Mark};
 use words::put;
 
 // A frame. An insert and a remove have their day first. An insert's marks stand in lent words, and their count is here.
-#[derive(Drop)]
+#[derive(Clone, Copy)]
 pub enum Frame {
     Format(u32, u32),
     Insert(u32, Cell, u32, usize),

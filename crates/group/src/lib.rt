@@ -7,6 +7,8 @@
 // anchor of each label's cells is sought, once. How the first: it is the least border at the mark or the least half-facet at it of a group
 // without one (crates/border), so a walk along the chain tells it, and walks from cell to cell that meet a border; labels are the last
 // resort. What a caller should know: each pair of cells is looked at once at most; 128 words hold any answer; the table is handed down.
+#![tactic(auto)]
+
 ghost use Rattle.std.specs.Prelude.{◌≡◌, ◌+◌, ◌<◌};
 ghost use Rattle.lists.specs.Filled.{Copied};
 ghost use Rattle.map.specs.Stars.{anchors};

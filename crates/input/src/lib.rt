@@ -7,6 +7,8 @@
 // far; however the input is cut, what is written is the output of the whole (specs/Fed.antt, proofs/Runs.antt); a line of any length takes 65
 // bytes of memory. What a caller should know: `feed` takes bytes while the output has room for any answer, 775 bytes; what it did not take
 // is handed in again.
+#![tactic(auto)]
+
 ghost use Rattle.std.specs.Prelude.{◌≡◌, ◌+◌, ◌-◌, leb};
 ghost use Rattle.words.specs.Words.{part_of};
 ghost use Rattle.reply.specs.Memory.{memory};
@@ -25,7 +27,7 @@ const MOST: usize = 65;
 const ANSWER: usize = 775;
 
 // What `feed` did: how many bytes of the piece it took, how many of the line are kept now, how many of the output it wrote.
-#[derive(Drop)]
+#[derive(Clone, Copy)]
 pub struct Fed {
     pub taken: usize,
     pub length: usize,
@@ -67,7 +69,7 @@ fn keep(line: &mut [u8], n: usize, b: u8) -> usize
 }
 
 // The places after a byte: in the line, and in the output.
-#[derive(Drop)]
+#[derive(Clone, Copy)]
 struct Places {
     line: usize,
     out: usize,

@@ -3,6 +3,8 @@
 // What is here: `about_insert`, which opens the call, and the three of its checks that look at other cells. They write nothing. What is
 // proved: on well-formed memory the answer is that of the outline's row (`insert_checks`). What a caller should know: the cost follows the
 // star of the first mark; for a solid under edition 2, the stars of the first marks of its faces too.
+#![tactic(auto)]
+
 ghost use Rattle.std.specs.Prelude.{[], ◌≡◌, ◌<◌, get_or};
 ghost use Rattle.lists.specs.Lists.{any, list_of};
 ghost use Rattle.shapes.specs.Shapes.{facet_count};

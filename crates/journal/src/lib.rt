@@ -5,6 +5,8 @@
 // nothing; nothing is written behind a mesh's room or behind the last edit that fits; journal, starting map and mesh that the calls kept since a
 // journal began stay in one relation with the history (specs/Kept.antt). What a caller should know: from `begin` on the mesh is edited
 // through the journal alone; the map on a day, and what makes room again, is crate `year`.
+#![tactic(auto)]
+
 ghost use Rattle.std.specs.Prelude.{◌≡◌, ◌<◌, length};
 ghost use Rattle.map.specs.Cells.{licensed_body};
 ghost use Rattle.map.specs.History.{Insert, Remove};

@@ -5,6 +5,8 @@
 // entries to the front, `copy_words` copies words. All are total. What is proved: each answer is an equation with specs/Journals.antt, and all
 // memory as it is left is told by specs/Writes.antt. What a caller should know: specs/Days.antt says what the days mean, over the list of
 // dated edits alone; no other crate knows a word's number.
+#![tactic(auto)]
+
 ghost use Rattle.std.specs.Prelude.{◌≡◌, ◌+◌, get_or, length};
 ghost use Rattle.journal_store.specs.Entries.{entry_at, head_of, entry_of, places_of, used_of};
 ghost use Rattle.journal_store.specs.Journals.{entries_in, last_in, ever_in, fold_in, day_in, type_in, licence_in, is_journal, Counted};

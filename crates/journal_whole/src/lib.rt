@@ -4,6 +4,8 @@
 // journal word by word. It has no `requires`, and writes nothing. What is proved: it says yes exactly if the two are filed, for some map and
 // some dated edits (`Filed`, crates/journal/specs/Kept.antt). What a caller should know: that each entry would be accepted at its turn is not
 // part of it: an entry that is refused when it is replayed changes nothing.
+#![tactic(auto)]
+
 ghost use Rattle.std.specs.Prelude.{◌≡◌, ◌+◌};
 ghost use Rattle.journal_whole.specs.Checks.{Zeros, EntryGood, EntriesGood, head_good, WholeJournal};
 

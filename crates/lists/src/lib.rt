@@ -3,6 +3,8 @@
 // What is here: `has`, `subset`, `same_set`, `repeats` and `reaches` over slices. All are total. What is proved: each answer is that of
 // specs/Lists.antt, and proofs/ has the laws of those definitions: membership, equal sets, selections, ascending lists, cycles. What a
 // caller should know: nothing is copied; each looks at every pair of numbers at most.
+#![tactic(auto)]
+
 ghost use Rattle.std.specs.Prelude.{◌≡◌, leb, drop};
 ghost use Rattle.lists.specs.Lists.{has, any, all, same_set, repeats};
 

@@ -5,6 +5,8 @@
 // src/ the refusals, the ways of a sibling and the answers as enums, each case with the outline's number in specs/Says.antt
 // and specs/Ways.antt. What is proved: `number_of` and `way_number` give that number; the twelve cases hold
 // (proofs/Cases.antt); an answer of the outline is that of one enum value alone (proofs/Says.antt). What a caller should know: the laws of these definitions are in crate `laws`.
+#![tactic(auto)]
+
 ghost use Rattle.std.specs.Prelude.{◌≡◌};
 ghost use Rattle.map.specs.Says.{number_of};
 ghost use Rattle.map.specs.Ways.{way_number};
@@ -12,7 +14,7 @@ ghost use Rattle.map.specs.Ways.{way_number};
 use numbers::{Cell, Half};
 
 // Why a call is refused: a row of the outline's table each, in its order.
-#[derive(Drop)]
+#[derive(Clone, Copy)]
 pub enum Refusal {
     CapacityAbove,
     MemoryShort,
@@ -67,7 +69,7 @@ pub fn number_of(r: Refusal) -> u32
 }
 
 // Which way the sibling of a half-facet runs.
-#[derive(Drop)]
+#[derive(Clone, Copy)]
 pub enum Way {
     Lone,
     Same,
@@ -88,28 +90,28 @@ pub fn way_number(way: Way) -> u32
 }
 
 // The answer of a call that gives nothing back: format, insert, remove.
-#[derive(Drop)]
+#[derive(Clone, Copy)]
 pub enum Verdict {
     Accepted,
     Refused(Refusal),
 }
 
 // One number: a type, a count, the length of a list.
-#[derive(Drop)]
+#[derive(Clone, Copy)]
 pub enum Value {
     Is(u32),
     Refused(Refusal),
 }
 
 // Two numbers: the capacities.
-#[derive(Drop)]
+#[derive(Clone, Copy)]
 pub enum Pair {
     Are(u32, u32),
     Refused(Refusal),
 }
 
 // A cell or none: the free cell.
-#[derive(Drop)]
+#[derive(Clone, Copy)]
 pub enum CellAt {
     At(Cell),
     Nothing,
@@ -117,14 +119,14 @@ pub enum CellAt {
 }
 
 // A half-facet and the way that it runs: the sibling.
-#[derive(Drop)]
+#[derive(Clone, Copy)]
 pub enum HalfAt {
     At(Half, Way),
     Refused(Refusal),
 }
 
 // A half-facet or none: the first anchor, the lookup.
-#[derive(Drop)]
+#[derive(Clone, Copy)]
 pub enum Found {
     At(Half),
     Nothing,
@@ -132,7 +134,7 @@ pub enum Found {
 }
 
 // Border or not.
-#[derive(Drop)]
+#[derive(Clone, Copy)]
 pub enum Truth {
     Yes,
     No,
@@ -140,14 +142,14 @@ pub enum Truth {
 }
 
 // A build: refused with the place of the record, from 0.
-#[derive(Drop)]
+#[derive(Clone, Copy)]
 pub enum Built {
     Accepted,
     Refused(Refusal, u32),
 }
 
 // A list of edits: how many were made, and why it stopped if it did.
-#[derive(Drop)]
+#[derive(Clone, Copy)]
 pub enum Edits {
     Made(usize),
     Stopped(usize, Refusal),

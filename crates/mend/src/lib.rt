@@ -3,6 +3,8 @@
 // What is here: `settle` mends the siblings of the sets of the cell's facets and puts the first anchors of its marks in its dimension. It is total on any
 // memory. What is proved: nothing beyond the room changes; on the picture of a state that may settle (specs/Settle.antt) all siblings and
 // all first anchors are right afterwards. What a caller should know: the cell is given by its type and marks, for it may be gone.
+#![tactic(auto)]
+
 ghost use Rattle.std.specs.Prelude.{[]};
 ghost use Rattle.picture.specs.Step.{Step};
 ghost use Rattle.sibling.specs.Shared.{MayMend, mended};

@@ -3,6 +3,8 @@
 // What is here: the public calls, none with a `requires`. What is proved: memory that is no mesh is refused with 14; a refusal changes
 // nothing; nothing beyond the room changes; on well-formed memory the answer is the outline's, and an accepted edit leaves the well-formed
 // memory of exactly the edited map (specs/Edited.antt). What a caller should know: the cost follows the stars of the cell's marks.
+#![tactic(auto)]
+
 ghost use Rattle.std.specs.Prelude.{◌≡◌, ltb, length};
 ghost use Rattle.edit.specs.Edit.{Made};
 ghost use Rattle.map.specs.Cells.{body_of, licensed_body};

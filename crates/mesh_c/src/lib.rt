@@ -5,6 +5,8 @@
 // leaves what was lent as it was, on any memory (specs/Answered.antt, specs/Changed.antt, specs/Placed.antt, specs/Surfaces.antt,
 // specs/Journals.antt, specs/Plans.antt). What a caller should know: a list is a pointer and a count of 32-bit words (of positions 16-bit numbers, of points
 // 64-bit floats, of text bytes), aligned to their size; what a call writes may not overlap anything else that is lent to it.
+#![tactic(auto)]
+
 ghost use Rattle.std.specs.Prelude.{◌≡◌};
 ghost use Rattle.numbers.specs.Half.{half_of};
 ghost use Rattle.numbers.specs.Sizes.{caps_under, capacities};

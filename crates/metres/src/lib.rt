@@ -5,6 +5,8 @@
 // a metre is 0. What is proved: each measure is the float of the whole-number formula
 // (specs/Whole.antt), without rounding, and zero is positive zero; how a formula turns when its marks are swapped, reversed or moved
 // (proofs/Turns.antt). What a caller should know: products and differences stay below 2^53, whatever the positions.
+#![tactic(auto)]
+
 ghost use Rattle.std.specs.Prelude.{◌≡◌, T, get_or, pos};
 ghost use Rattle.std.specs.Float.{binary64};
 ghost use Rattle.std.specs.Float.Ieee.{of_int, in_float};
@@ -16,7 +18,7 @@ ghost use Rattle.metres.specs.Points.{point_of, Sixteen};
 use numbers::Mark;
 
 // A point of three floats.
-#[derive(Drop)]
+#[derive(Clone, Copy)]
 pub struct Point {
     pub x: f64,
     pub y: f64,

@@ -4,6 +4,8 @@
 // proved: each answer is an equation with specs/Half.antt; making and taking apart are inverse for
 // every cell below 65,536 and every local facet below 8 (proofs/Inverse.antt). What a caller should
 // know: a cell's number where a mark's is due does not compile.
+#![tactic(auto)]
+
 ghost use Rattle.std.specs.Prelude.{◌≡◌, ◌/◌, ◌%◌};
 ghost use Rattle.numbers.specs.Half.{half_of, cut};
 ghost use Rattle.numbers.specs.Editions.{is_edition};
@@ -23,7 +25,7 @@ pub const FIRST_EDITION: u32 = 1;
 pub const SECOND_EDITION: u32 = 2;
 
 // What a mesh was formatted for: its capacities and its edition.
-#[derive(Drop)]
+#[derive(Clone, Copy)]
 pub struct Caps {
     pub marks: u32,
     pub cells: u32,
@@ -41,15 +43,15 @@ pub fn is_edition(edition: u32) -> bool
 }
 
 // A mark's number.
-#[derive(Drop)]
+#[derive(Clone, Copy)]
 pub struct Mark(pub u32);
 
 // A cell's number.
-#[derive(Drop)]
+#[derive(Clone, Copy)]
 pub struct Cell(pub u32);
 
 // A half-facet's number.
-#[derive(Drop)]
+#[derive(Clone, Copy)]
 pub struct Half(pub u32);
 
 // The number of a cell's local facet. Cells run below 65,536 and facets below 8; the rest is cut off.

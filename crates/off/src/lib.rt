@@ -6,6 +6,8 @@
 // breaks the form, and what specs/Writing.antt writes is read back as it was (proofs/Round.antt); worked texts stand in
 // proofs/Example.antt. What a caller should know: a word is the part of the text from its first place to the cursor behind it; what is
 // written past the end of the output is left out.
+#![tactic(auto)]
+
 ghost use Rattle.std.specs.Prelude.{◌≡◌, [], ◌∷◌, ◌+◌, drop, pos};
 ghost use Rattle.lists.specs.Lists.{same};
 ghost use Rattle.off.specs.Words.{parts, words_from};
@@ -16,27 +18,27 @@ ghost use Rattle.frames.specs.Forms.{Appended};
 ghost use Rattle.off.specs.Forms.{next_of, number_said, coordinate_said, meant};
 
 // A place of a text, from which it is read on.
-#[derive(Drop)]
+#[derive(Clone, Copy)]
 pub struct Cursor {
     pub at: usize,
 }
 
 // The next word: its first place, and the cursor right behind it.
-#[derive(Drop)]
+#[derive(Clone, Copy)]
 pub enum Next {
     Word(usize, Cursor),
     End,
 }
 
 // The number that a word says, or that it breaks the form.
-#[derive(Drop)]
+#[derive(Clone, Copy)]
 pub enum Number {
     Is(u32),
     Breaks,
 }
 
 // The coordinate that a word says, or that it breaks the form.
-#[derive(Drop)]
+#[derive(Clone, Copy)]
 pub enum Coordinate {
     Is(i16),
     Breaks,

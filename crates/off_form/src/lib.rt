@@ -4,6 +4,8 @@
 // whole text. None has a `requires`. What is proved: each answer is that of `one` of crates/off/specs/Reading.antt; `form_of` gives
 // the place of 17, or the counts and the cursors of the first vertex and the first face (specs/Formed.antt). What a caller should
 // know: a cursor stands for the words from it on, so a text is read a second time from a cursor that `form_of` gave.
+#![tactic(auto)]
+
 ghost use Rattle.std.specs.Prelude.{◌≡◌, length, ℕ};
 ghost use Rattle.off.specs.Numbers.{number_of, size_of, coordinate_of, title_of};
 ghost use Rattle.off.specs.Reading.{one, many, face, faces};
@@ -15,28 +17,28 @@ use off::{
 };
 
 // The number at a cursor and the cursor behind it, or the place of 17.
-#[derive(Drop)]
+#[derive(Clone, Copy)]
 pub enum TookNumber {
     Is(u32, Cursor),
     Stop(usize),
 }
 
 // The coordinate at a cursor and the cursor behind it, or the place of 17.
-#[derive(Drop)]
+#[derive(Clone, Copy)]
 pub enum TookCoordinate {
     Is(i16, Cursor),
     Stop(usize),
 }
 
 // The cursor behind some words, or the place of 17.
-#[derive(Drop)]
+#[derive(Clone, Copy)]
 pub enum Passed {
     On(Cursor),
     Stop(usize),
 }
 
 // The counts of a text that is of the form, and where its vertices and its faces begin.
-#[derive(Drop)]
+#[derive(Clone, Copy)]
 pub struct Form {
     pub marks: u32,
     pub cells: u32,
@@ -45,7 +47,7 @@ pub struct Form {
 }
 
 // The first two counts, and the cursor behind the third.
-#[derive(Drop)]
+#[derive(Clone, Copy)]
 struct Head {
     marks: u32,
     cells: u32,
@@ -53,14 +55,14 @@ struct Head {
 }
 
 // The word OFF and the counts, or the place of 17.
-#[derive(Drop)]
+#[derive(Clone, Copy)]
 enum Begun {
     Is(Head),
     Stop(usize),
 }
 
 // A text of the form, or the place of 17.
-#[derive(Drop)]
+#[derive(Clone, Copy)]
 pub enum Shape {
     Is(Form),
     Stop(usize),

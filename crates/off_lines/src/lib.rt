@@ -4,6 +4,8 @@
 // `number_length` how long a number is. None has a `requires`. What is proved: the bytes written are those of crates/off/specs/Writing.antt, and
 // each length is the length of those bytes. What a caller should know: what is written past the end of the output is left out, so that a
 // caller asks for the lengths first; beyond the end of the positions a coordinate is 0.
+#![tactic(auto)]
+
 ghost use Rattle.std.specs.Prelude.{◌≡◌, [], ◌++◌, length};
 ghost use Rattle.frames.specs.Forms.{Appended};
 ghost use Rattle.off.specs.Numbers.{title};

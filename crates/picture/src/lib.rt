@@ -5,6 +5,8 @@
 // memory. What is proved: each writer leaves the picture of the state changed in that one place, and nothing beyond the room; two
 // well-formed memories of one map are equal word for word (proofs/Put.antt). What a caller should know: specs/Writes.antt says what is
 // asked.
+#![tactic(auto)]
+
 ghost use Rattle.std.specs.Prelude.{◌/◌, ◌%◌, ◌<◌, ◌≤◌};
 ghost use Rattle.map.specs.Cells.{licensed_body};
 ghost use Rattle.store.specs.Fields.{Near};

@@ -5,6 +5,8 @@
 // the room of second memory changes; on well-formed memory it says yes exactly when every edit in order would be accepted and the live cells
 // are then the wanted ones, each once, and else 24 with its place (proofs/Exactly.antt); yes and 24 leave the well-formed memory of the map
 // after the accepted edits. What a caller should know: it costs a copy of the room, the edits, and a look at each record and each cell.
+#![tactic(auto)]
+
 ghost use Rattle.std.specs.Prelude.{◌≡◌};
 ghost use Rattle.lists.specs.Lists.{every};
 ghost use Rattle.plan_check.specs.Checked.{PlanChecked};
@@ -21,7 +23,7 @@ use wanted::{read_wanted, record_stands};
 use words::word;
 
 // What the check says of a plan: yes, or the place of its first wrong edit, or why it was not tried.
-#[derive(Drop)]
+#[derive(Clone, Copy)]
 pub enum Planned {
     Yes,
     Wrong(usize),

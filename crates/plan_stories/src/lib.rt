@@ -4,3 +4,4 @@
 // each edit of the planner's plan is accepted in turn and they leave the map of the wanted cells (Passing), since such a list is read whole and its
 // cells are tidy (Buildable); the words of the plan are read back as its edits (Mornings), so the plan is right (Passes); `plan` gives it where
 // it fits, and `plan_check` says yes to its words (Calls).
+#![tactic(auto)]

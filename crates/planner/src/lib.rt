@@ -5,6 +5,8 @@
 // no mesh is refused with 14; a refusal leaves the output as it was, and a plan that fits changes only its first places; on well-formed memory
 // the answer and the words are those of specs/Plan.antt. That the plan passes the check is proved in crates/plan_stories. What a caller should
 // know: it goes through the wanted list twice and through the cells twice, with 65,536 bytes of its own for the cells that stand as wanted.
+#![tactic(auto)]
+
 ghost use Rattle.std.specs.Prelude.{◌≡◌, cond, [], ◌∷◌, length};
 ghost use Rattle.lists.specs.Lists.{select};
 ghost use Rattle.words.specs.Words.{part_of};
@@ -22,7 +24,7 @@ use wanted::{read_wanted, record_stands};
 use words::{part, word};
 
 // A plan, with its length in words, or why there is none.
-#[derive(Drop)]
+#[derive(Clone, Copy)]
 pub enum Proposal {
     Words(usize),
     Refused(Refusal),

@@ -6,6 +6,8 @@
 // once, a measure is the float of its whole-number formula (specs/Measures.antt, specs/Replies.antt, specs/Pointed.antt). What a caller should
 // know: the list of positions has three numbers for each mark of the capacity; a pyramid, a wedge and a brick have corners and a centre, and
 // no measure.
+#![tactic(auto)]
+
 ghost use Rattle.std.specs.Prelude.{◌≡◌, ◌*◌, ◌≤◌, ltb, length, set, pos};
 ghost use Rattle.std.specs.Float.{binary64};
 ghost use Rattle.std.specs.Float.Ieee.{of_int, div};
@@ -31,7 +33,7 @@ use store::{code_of, corner_of};
 pub const MOST_MEASURED: u32 = 4;
 
 // The measure of a cell: its kind follows the type.
-#[derive(Drop)]
+#[derive(Clone, Copy)]
 pub enum Measured {
     SquaredLength(f64),
     DoubledArea(f64),
@@ -40,14 +42,14 @@ pub enum Measured {
 }
 
 // The centre of a cell.
-#[derive(Drop)]
+#[derive(Clone, Copy)]
 pub enum Centred {
     At(Point),
     Refused(Refusal),
 }
 
 // The corners of a cell as points: as many as are counted stand first, and behind them the origin.
-#[derive(Drop)]
+#[derive(Clone, Copy)]
 pub struct CornersAt {
     pub count: Value,
     pub at: [Point; MOST_MARKS as usize],

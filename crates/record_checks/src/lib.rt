@@ -4,6 +4,8 @@
 // answer is that of specs/Laid.antt, on any memory; memory that is laid out is the picture of the state that it tells, and well-formed
 // memory is laid out (proofs/). What a caller should know: live counts, first anchors and the siblings themselves need other records and
 // are not looked at here; a chain is followed for 128 cells at most; the cost follows marks, cells and the chains of each cell's marks.
+#![tactic(auto)]
+
 ghost use Rattle.std.specs.Prelude.{◌≡◌};
 ghost use Rattle.lists.specs.Lists.{all, every};
 ghost use Rattle.shapes.specs.Shapes.{facet_count};

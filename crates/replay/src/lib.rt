@@ -4,6 +4,8 @@
 // starting map. They have no `requires`. What is proved: on any memory each is a run of single edits (specs/Replayed.antt), so that on
 // well-formed memory the law of runs gives the map, and memory keeps its length. What a caller should know: they are lent the words of the
 // room alone, so that nothing beyond it can change.
+#![tactic(auto)]
+
 ghost use Rattle.std.specs.Prelude.{◌≡◌};
 ghost use Rattle.journal_store.specs.Journals.{edit_in, edits_in};
 ghost use Rattle.mesh.specs.Edited.{Edited};

@@ -6,6 +6,8 @@
 // no frame changes one beyond its reach, beyond the room of 384 marks and 384 cells or behind the last edit that fits; on the words of a journal the
 // line is that of crates/frames/specs/Frames.antt, and what is left are the words of the journal afterwards (specs/Replied.antt). What a caller
 // should know: the line comes without its end; the journal has places for as many edits as fit in its words.
+#![tactic(auto)]
+
 ghost use Rattle.map.specs.Cells.{body_of};
 ghost use Rattle.map.specs.History.{Insert, Remove};
 ghost use Rattle.frames.specs.Frames.{frame_of, Format, Change, Star, Anchors, Sibling, Bad};

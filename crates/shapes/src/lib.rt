@@ -4,6 +4,8 @@
 // total: a code, a facet or a corner outside the table reads as 0. What is proved: each answer is that of specs/Shapes.antt, and
 // proofs/Facts.antt has the facts of all facets, shown once over the whole table. What a caller should know: a table is copied at each
 // use of the constant, so take it once a call and hand the copy down.
+#![tactic(auto)]
+
 ghost use Rattle.std.specs.Prelude.{◌≡◌, ◌+◌};
 ghost use Rattle.shapes.specs.Shapes.{shape, facet_count};
 ghost use Rattle.shapes.specs.Table.{table, entry};

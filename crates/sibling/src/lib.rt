@@ -5,6 +5,8 @@
 // a state whose cells make a sound map and whose chains are right, the list is that of the definitions and the siblings are left as
 // specs/Shared.antt says; the way is that of crates/map/specs/Ways.antt; on any memory nothing beyond the room changes. What a caller should know: the set's first mark leads to its cells, so it must be a mark of the mesh; the
 // table is handed down, so that it is copied once a call; 128 words hold any answer.
+#![tactic(auto)]
+
 ghost use Rattle.std.specs.Prelude.{◌≡◌, [], ◌∷◌};
 ghost use Rattle.lists.specs.Lists.{same};
 ghost use Rattle.map.specs.Ways.{turned, rotation, runs, direction};

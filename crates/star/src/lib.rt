@@ -3,6 +3,8 @@
 // What is here: `star_of` lists the star of a mark in a dimension, from the mark's chain. It is total on any memory. What is proved: on
 // the picture of a ready state the list is the definition's, none missing, none extra (specs/Listed.antt: `Gives`). What a caller
 // should know: a star has at most 128 cells; the output takes as many as it has room for, and the count is whole.
+#![tactic(auto)]
+
 ghost use Rattle.map.specs.Stars.{star};
 ghost use Rattle.star.specs.Listed.{Gives, AtMark};
 ghost use Rattle.star.specs.Along.{kept};

@@ -5,6 +5,8 @@
 // memory as it is left, is an equation with specs/Slots.antt, where specs/Fields.antt names every word and specs/Layout.antt says where
 // a record lies; two slots never share a word, and every word of the room has a slot (proofs/Slots.antt). What a caller should know: no
 // other crate knows a word's number; a write outside the records changes nothing, whatever numbers stand in memory.
+#![tactic(auto)]
+
 ghost use Rattle.std.specs.Prelude.{◌≡◌, ◌+◌, ◌*◌, ◌/◌, ◌%◌, eqb, get_or};
 ghost use Rattle.lists.specs.Lists.{all};
 ghost use Rattle.words.specs.Words.{Part};
@@ -38,7 +40,7 @@ pub const NEAR_MARKS: u32 = 4;
 const PAST_HALVES: u32 = 524288;
 
 // What memory is.
-#[derive(Drop)]
+#[derive(Clone, Copy)]
 pub enum Opened {
     Mesh(Caps),
     Nothing,

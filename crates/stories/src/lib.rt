@@ -7,3 +7,4 @@
 // any order, which is accepted and has the same words (Afresh); an accepted edit leaves the records of other marks and of cells that share
 // no mark with it (Kept); a cell's record fixes its siblings, a mark's its first anchors, and the head's counts are those of the lists
 // (Records); the walker returns after exactly as many steps as the set has half-facets (Walks).
+#![tactic(auto)]

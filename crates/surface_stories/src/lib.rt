@@ -5,3 +5,4 @@
 // (Again). Any surface that is written and then read comes back with the same cells in their order and the same positions, renumbered 0, 1, 2 where
 // its numbers had gaps, under edition 1 whatever its edition was and with licence 0 (Gaps), and written once more it is the same text (Rewritten);
 // after a read there are no gaps and no licences (Gapless).
+#![tactic(auto)]

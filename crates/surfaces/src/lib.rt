@@ -5,6 +5,8 @@
 // change nothing; a refused face leaves a mesh with no live cell and the positions as they were; a surface that is read leaves the well-formed memory of
 // exactly its faces, numbered in the order of the text, and its positions in the first places (specs/ReadsOff.antt). What a caller should
 // know: the mesh is of edition 1; nothing of the text is kept in memory.
+#![tactic(auto)]
+
 ghost use Rattle.std.specs.Prelude.{◌≡◌, List, [], ℕ, length, set};
 ghost use Rattle.numbers.specs.Sizes.{capacities};
 ghost use Rattle.build.specs.Builds.{Builds};
@@ -27,7 +29,7 @@ use store::room_of;
 use words::{part, put};
 
 // A surface read, or refused: 17 with the place of the text, the build's own with the face's place, from 0.
-#[derive(Drop)]
+#[derive(Clone, Copy)]
 pub enum Surfaced {
     Accepted,
     Broken(usize),
@@ -38,7 +40,7 @@ pub enum Surfaced {
 const MOST_FACE: usize = 4;
 
 // A face inserted, with the cursor behind it, or refused.
-#[derive(Drop)]
+#[derive(Clone, Copy)]
 enum Faced {
     Made(Cursor),
     Refused(Refusal),

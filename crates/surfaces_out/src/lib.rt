@@ -4,6 +4,8 @@
 // more to write. What is proved: memory that is no mesh is refused with 14, then 16, 18 and 12; a refusal leaves the output as it was, and a
 // text that fits changes only its first places; on well-formed memory the text is that of the live faces, ascending
 // (specs/WritesOff.antt). What a caller should know: the first count is the capacity of marks, so every mark has its line.
+#![tactic(auto)]
+
 ghost use Rattle.std.specs.Prelude.{◌≡◌, cond, [], ◌++◌, map, eqb, length};
 ghost use Rattle.lists.specs.Lists.{list_of};
 ghost use Rattle.store.specs.Slots.{corner_in};
@@ -21,7 +23,7 @@ use shapes::mark_count;
 use store::{Opened, code_of, corner_of, open};
 
 // A text written, with its length in bytes; 18; or another refusal.
-#[derive(Drop)]
+#[derive(Clone, Copy)]
 pub enum Written {
     Length(usize),
     NotSurface,
@@ -29,7 +31,7 @@ pub enum Written {
 }
 
 // The live faces counted, and the bytes of their lines; or a cell that is no face.
-#[derive(Drop)]
+#[derive(Clone, Copy)]
 enum Survey {
     Is(u32, usize),
     Other,

@@ -5,6 +5,8 @@
 // refusal of specs/Wanted.antt; that of `record_stands`, on any memory, is specs/Records.antt's, and on well-formed memory that of the map
 // (proofs/Standing.antt); what is behind a record is the rest of the list (proofs/Reading.antt). What a caller should know: the list is read
 // from record to record by `build::record_end`; specs/Plans.antt has what the check of a plan answers.
+#![tactic(auto)]
+
 ghost use Rattle.std.specs.Prelude.{◌≡◌, length};
 ghost use Rattle.lists.specs.Lists.{same};
 ghost use Rattle.map.specs.Cells.{licensed_body};

@@ -3,6 +3,8 @@
 // What is here: `whole`, and the steps of its second half; the first half is crates/record_checks. What is proved: it says yes exactly if there is
 // a map of which memory is the well-formed memory, on any memory, also under 16 words (specs/Whole.antt). What a caller should know:
 // nothing is written; the time grows with the marks and cells and their stars.
+#![tactic(auto)]
+
 ghost use Rattle.std.specs.Prelude.{◌≡◌, ◌<◌, get_or};
 ghost use Rattle.lists.specs.Lists.{any, every, list_of, after};
 ghost use Rattle.shapes.specs.Shapes.{facet_count};

@@ -5,6 +5,8 @@
 // equation with a definition of specs/Words.antt or of the library. What a caller should know:
 // past the end a read gives 0 and a write changes nothing. proofs/Frame.antt has the laws of what a
 // write leaves as it was, for every layer above.
+#![tactic(auto)]
+
 ghost use Rattle.std.specs.Prelude.{◌≡◌, get_or, set};
 ghost use Rattle.words.specs.Words.{Part};
 

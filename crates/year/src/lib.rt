@@ -5,6 +5,8 @@
 // nothing; nothing is written behind a mesh's room or behind the last edit that fits; the map on a day is the well-formed one of the edits up
 // to it, for every day from the last fold on, whatever was folded; a fold keeps the relation of crate `journal` (proofs/Days.antt). What a
 // caller should know: a query costs a copy of the room and the edits since the last fold up to the day; what opens it costs a few words read.
+#![tactic(auto)]
+
 ghost use Rattle.std.specs.Prelude.{◌≡◌};
 ghost use Rattle.journal_store.specs.Days.{not_allowed};
 ghost use Rattle.journal_store.specs.Journals.{last_in, ever_in, fold_in};

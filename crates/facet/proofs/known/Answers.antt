@@ -1,0 +1,9 @@
+-- `facet::known` meets its contract.
+use Rattle.facet.proofs.Held.{known_none, known_mark}
+use Rattle.facet.proofs.known.Goals as goal
+
+pub returns-then-x-eq0 : goal.returns-then-x-eq0
+returns-then-x-eq0 c = known_none _ _ c.if-x-eq0.true
+
+pub returns : goal.returns
+returns c = known_mark _ _ c.if-x-eq0.false _ c.has.ensures

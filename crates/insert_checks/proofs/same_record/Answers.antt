@@ -1,0 +1,10 @@
+-- `admit::same_record` meets its contract.
+use Rattle.facet.proofs.Copy.{marks_words}
+use Rattle.insert_checks.proofs.Alike.{record_other, record_same}
+use Rattle.insert_checks.proofs.same_record.Goals as goal
+
+pub returns-then-code_of-t : goal.returns-then-code_of-t
+returns-then-code_of-t c = record_other _ _ _ _ _ _ c.code_of.ensures c.if-code_of-t.true
+
+pub returns : goal.returns
+returns c = record_same _ _ _ _ _ _ c.code_of.ensures c.if-code_of-t.false _ _ (marks_words _ _ _ _ c.marks_at.ensures) c.same_set.ensures

@@ -1,0 +1,14 @@
+-- `journal::append` meets its contract.
+use mathlib.Core.Path.{refl}
+use native.Mathlib.Omega.{arith}
+use lib.ListN.{length}
+use Rattle.journal.proofs.Appending.{places_most, appended}
+use Rattle.journal.proofs.append.Goals as goal
+
+pub overflow_add-n : goal.overflow_add-n
+overflow_add-n c =
+    omega (arith, c.requires, c.entries_of-n.ensures, places_most (length c.args.j.now))
+
+pub returns : goal.returns
+returns c =
+    appended _ _ _ _ _ _ _ _ _ c.entries_of-n.ensures refl c.fold_of-fold.ensures (omega (arith, c.requires, c.entries_of-n.ensures)) c.write_entry.ensures c.write_head.ensures

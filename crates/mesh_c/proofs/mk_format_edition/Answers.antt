@@ -1,0 +1,6 @@
+-- `mesh_c::mk_format_edition` meets its contract.
+use Rattle.mesh_c.proofs.Edits.{emptied}
+use Rattle.mesh_c.proofs.mk_format_edition.Goals as goal
+
+pub returns : goal.returns
+returns c = emptied _ _ c.tell_verdict.ensures _ _ _ c.format_edition.ensures

@@ -1,0 +1,6 @@
+-- `mesh_c::mk_insert` meets its contract.
+use Rattle.mesh_c.proofs.Edits.{changed}
+use Rattle.mesh_c.proofs.mk_insert.Goals as goal
+
+pub returns : goal.returns
+returns c = changed _ _ c.tell_verdict.ensures _ _ _ c.insert.ensures

@@ -1,0 +1,6 @@
+-- `mesh_c::mk_neighbours` meets its contract.
+use Rattle.mesh_c.proofs.Queries.{listed_out}
+use Rattle.mesh_c.proofs.mk_neighbours.Goals as goal
+
+pub returns : goal.returns
+returns c = listed_out _ _ _ _ _ _ c.neighbours.ensures _ _ _ c.tell_value.ensures

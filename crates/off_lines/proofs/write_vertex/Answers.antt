@@ -1,0 +1,11 @@
+-- `off_lines::write_vertex` meets its contract.
+use mathlib.Core.Path.{refl}
+use Rattle.off_lines.proofs.Lines.{vertex_written}
+use Rattle.off_lines.proofs.write_vertex.Goals as goal
+
+pub returns : goal.returns
+returns c =
+    vertex_written _ _ _ _ _ _ _ _ c.metre.ensures.0 c.metre.ensures.1 refl
+    c.metre-2.ensures.0 c.metre-2.ensures.1 refl c.metre-3.ensures.0 c.metre-3.ensures.1 refl
+    c.write_coordinate-first.ensures c.add-second.ensures c.write_coordinate-third.ensures c.add-fourth.ensures c.write_coordinate-fifth.ensures
+    c.add.ensures

@@ -1,0 +1,22 @@
+-- `positions::about_measure` meets its contract.
+use Rattle.positions.proofs.Rows.{measure_refused, measure_none, measure_short, measure_open}
+use mathlib.Core.Path.{sym, ◌∙◌}
+use Rattle.positions.proofs.about_measure.Goals as goal
+
+pub returns-in-Refused : goal.returns-in-Refused
+returns-in-Refused c = measure_refused _ _ _ _ c.about_cell.ensures _ c.in-Refused.is
+
+pub returns-then-code_of-gt-MOST_MEASURED : goal.returns-then-code_of-gt-MOST_MEASURED
+returns-then-code_of-gt-MOST_MEASURED c =
+    let opens = c.about_cell.ensures.opens _ c.in-Open.is in
+    measure_none _ _ _ _ opens.0 opens.1 _ c.code_of.ensures c.if-code_of-gt-MOST_MEASURED.true
+
+pub returns-then-too_few : goal.returns-then-too_few
+returns-then-too_few c =
+    let opens = c.about_cell.ensures.opens _ c.in-Open.is in
+    measure_short _ _ _ _ opens.0 opens.1 _ c.code_of.ensures c.if-code_of-gt-MOST_MEASURED.false (sym c.too_few.ensures ∙ c.if-too_few.true)
+
+pub returns : goal.returns
+returns c =
+    let opens = c.about_cell.ensures.opens _ c.in-Open.is in
+    measure_open _ _ _ _ opens.0 opens.1 _ c.code_of.ensures c.if-code_of-gt-MOST_MEASURED.false (sym c.too_few.ensures ∙ c.if-too_few.false)

@@ -1,0 +1,16 @@
+-- `positions::centre` meets its contract.
+use mathlib.Core.Path.{ap, ◌∙◌}
+use Prim.Native.Nat.{ℕ}
+use Rattle.shapes.specs.Shapes.{shape}
+use Rattle.positions.proofs.Replies.{centred_refused, centred_given}
+use Rattle.positions.proofs.centre.Goals as goal
+
+pub returns-in-Refused : goal.returns-in-Refused
+returns-in-Refused c = centred_refused _ _ _ _ c.about_corners.ensures _ c.in-Refused.is
+
+pub returns : goal.returns
+returns c =
+    let opens = c.about_corners.ensures.opens _ c.in-Open.is in
+    centred_given _ _ _ _ opens.0 opens.1 _ (c.mark_count-n.ensures ∙ ap (λ (t : ℕ). (shape t).marks) c.code_of.ensures)
+    _ _ _ c.total.ensures c.total-2.ensures c.total-3.ensures
+    _ _ _ c.mean-x.ensures c.mean-y.ensures c.mean-z.ensures

@@ -1,0 +1,19 @@
+-- `positions::corner_points` meets its contract.
+use Prim.Native.Nat.{◌-◌}
+use native.Mathlib.Omega.{arith}
+use Rattle.positions.proofs.Written.{point_none, point_more, point_all, put_or_not, origins_eight}
+use Rattle.positions.proofs.corner_points.Goals as goal
+
+pub loop-i-init : goal.loop-i-init
+loop-i-init c = (omega arith, point_none _ _ _)
+
+pub loop-i-preserved : goal.loop-i-preserved
+loop-i-preserved c =
+    let few = origins_eight _ c.origins-at.ensures in (
+      omega (arith, c.loop-i-test.true),
+      point_more _ _ _ c.loop-i.i _ _ _ _ c.corner_of-v.ensures c.point_at-p.ensures.0 c.loop-i.invariant.1
+          (put_or_not _ _ _ _ (omega (arith, few, c.loop-i.invariant.1.size)) c.if-place.branch (λ e. e.left)),
+    )
+
+pub returns : goal.returns
+returns c = rw (← c.origins-at.ensures) (point_all _ _ _ c.loop-i.i _ _ c.loop-i.invariant.0 (omega (arith, c.loop-i-test.false)) c.loop-i.invariant.1)

@@ -1,0 +1,19 @@
+-- `positions::points` meets its contract.
+use mathlib.Core.Path.{ap, ◌∙◌}
+use Prim.Native.Nat.{ℕ}
+use Rattle.shapes.specs.Shapes.{shape}
+use Rattle.positions.proofs.Pointing.{pointed_refused, pointed_short, pointed_written}
+use Rattle.positions.proofs.points.Goals as goal
+
+pub returns-in-Refused : goal.returns-in-Refused
+returns-in-Refused c = pointed_refused _ _ _ _ _ c.about_corners.ensures _ c.in-Refused.is
+
+pub returns-then-out-n : goal.returns-then-out-n
+returns-then-out-n c =
+    let opens = c.about_corners.ensures.opens _ c.in-Open.is in
+    pointed_short _ _ _ _ _ opens.0 opens.1 _ (c.mark_count-n.ensures ∙ ap (λ (t : ℕ). (shape t).marks) c.code_of.ensures) c.if-out-n.true
+
+pub returns : goal.returns
+returns c =
+    let opens = c.about_corners.ensures.opens _ c.in-Open.is in
+    pointed_written _ _ _ _ _ opens.0 opens.1 _ (c.mark_count-n.ensures ∙ ap (λ (t : ℕ). (shape t).marks) c.code_of.ensures) c.if-out-n.false _ c.write_points.ensures

@@ -1,0 +1,16 @@
+-- `positions::total` meets its contract.
+use Prim.Native.Nat.{◌-◌}
+use native.Mathlib.Omega.{arith}
+use Rattle.metres.proofs.Sums.{held_none, held_more, held_all}
+use Rattle.positions.proofs.Measures.{read_there}
+use Rattle.positions.proofs.total.Goals as goal
+
+pub loop-i-init : goal.loop-i-init
+loop-i-init c = (omega arith, λ few. held_none _)
+
+pub loop-i-preserved : goal.loop-i-preserved
+loop-i-preserved c =
+    (omega arith, λ few. held_more _ _ _ (omega (arith, c.loop-i-test.true, few)) _ (read_there _ _ _ _ _ c.corner_of-v.ensures c.metre-x.ensures.0) c.metre-x.ensures.1 (c.loop-i.invariant.1 few))
+
+pub returns : goal.returns
+returns c few = held_all _ _ _ _ c.loop-i.invariant.0 (omega (arith, c.loop-i-test.false)) few (c.loop-i.invariant.1 few)

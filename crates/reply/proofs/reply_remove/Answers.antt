@@ -1,0 +1,7 @@
+-- `reply::reply_remove` meets its contract.
+use Rattle.reply.proofs.Answered.{edit_replied}
+use Rattle.reply.proofs.reply_remove.Goals as goal
+
+pub returns : goal.returns
+returns c =
+    λ start. edit_replied _ _ _ _ _ _ _ _ _ start _ _ c.enter_remove-said.ensures c.write_verdict.ensures

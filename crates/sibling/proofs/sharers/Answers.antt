@@ -1,0 +1,60 @@
+-- `sibling::sharers` meets its contract.
+use mathlib.Core.Path.{refl, ◌∙◌}
+use mathlib.Core.Logic.{⊎_elim}
+use Prim.Native.Nat.{◌-◌}
+use native.Mathlib.Omega.{arith}
+use Rattle.chain.proofs.Places.{head_word_lem}
+use Rattle.chain.proofs.Readied.{ready_linked}
+use Rattle.sibling.proofs.Written.{going_start, going_more, going_none, going_end, going_full, shared_list}
+use Rattle.sibling.proofs.sharers.Goals as goal
+
+pub loop-i-init : goal.loop-i-init
+loop-i-init c = (omega arith, omega arith, refl, λ s v p l e. going_start _ _ s v _ _ e)
+
+pub returns-then-link-eq0 : goal.returns-then-link-eq0
+returns-then-link-eq0 c =
+    record {
+      few = omega arith;
+      size = c.loop-i.invariant.2;
+      list = λ s p r q.
+          shared_list _ _ _ _ _ _ _ _ c.word.ensures s p r q
+          (going_end _ _ s _ _ _ _ _ _
+          (c.loop-i.invariant.3 s _ p (ready_linked _ s r) (c.first_of-link.ensures ∙ head_word_lem _ _ s p _ (rw c.word.ensures q.mark)))
+          c.loop-i.invariant.0 c.if-link-eq0.true);
+    }
+
+pub loop-i-preserved : goal.loop-i-preserved
+loop-i-preserved c =
+    let loop = c.loop-i in
+    ⊎_elim
+    (λ w. (
+      omega arith,
+      omega (arith, w.7),
+      rw w.6 (w.3.kept.0 ∙ loop.invariant.2),
+      λ s v p l e.
+          rw (w.6, w.7)
+          (going_more _ _ s v _ _ p l _ _ _ _ _ _ _ (loop.invariant.3 s v p l e) (omega arith) c.link_of-link.ensures c.matching-f.ensures
+          (omega arith) _ _ w.0.taken w.1.ensures w.3.ensures),
+    ))
+    (λ w. (
+      omega arith,
+      omega (arith, w.2),
+      rw w.1 loop.invariant.2,
+      λ s v p l e.
+          rw (w.1, w.2)
+          (going_none _ _ s v _ _ p l _ _ _ _ _ _ _ (loop.invariant.3 s v p l e) (omega arith) c.link_of-link.ensures c.matching-f.ensures
+          (omega arith) w.0.left),
+    ))
+    c.if-f-lt-NO_FACET.branch
+
+pub returns : goal.returns
+returns c =
+    record {
+      few = omega arith;
+      size = c.loop-i.invariant.2;
+      list = λ s p r q.
+          shared_list _ _ _ _ _ _ _ _ c.word.ensures s p r q
+          (going_full _ _ s _ _ _ _ _ _
+          (c.loop-i.invariant.3 s _ p (ready_linked _ s r) (c.first_of-link.ensures ∙ head_word_lem _ _ s p _ (rw c.word.ensures q.mark)))
+          c.loop-i.invariant.0 (omega (arith, (ready_linked _ s r).few c.word.result)));
+    }

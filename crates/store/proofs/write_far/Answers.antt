@@ -1,0 +1,20 @@
+-- `store::write_far` meets its contract.
+use mathlib.Core.Path.{refl, sym}
+use native.Mathlib.Omega.{arith}
+use Rattle.store.proofs.Writes.{cell_outside, field_out, field_in}
+use Rattle.store.specs.Layout.{far_at}
+use Rattle.store.specs.Fields.{Far, cell_place}
+use Rattle.store.specs.Slots.{address, place_at, cell_open}
+use Rattle.shapes.specs.Sizes.{most_marks}
+use Rattle.store.proofs.write_far.Goals as goal
+
+pub returns-then-caps-c : goal.returns-then-caps-c
+returns-then-caps-c c = sym (cell_outside _ _ _ _ _ (omega arith))
+
+pub returns-then-k-ge-MOST_MARKS : goal.returns-then-k-ge-MOST_MARKS
+unfolding cell_open
+returns-then-k-ge-MOST_MARKS c = sym (field_out _ _ _ Far most_marks (λ k. refl) _ _ (omega arith))
+
+pub returns : goal.returns
+unfolding far_at address place_at cell_place cell_open
+returns c = field_in _ _ _ Far most_marks (λ k. refl) _ _ _ _ c.put.ensures (omega arith) (omega arith) (omega arith)
