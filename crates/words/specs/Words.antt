@@ -8,7 +8,7 @@ part_of m at n = cond (leb (at + n) (length m)) (take n (drop at m)) []
 
 -- r begins where the word of m at a place is stored: in the same block, four bytes a word
 abbrev pub BeginsAt : Bor (List ℕ) → ℕ → Bor (List ℕ) → Type 0
-BeginsAt m at r = r.ptr ≡ (m.ptr.0, at * 4 + m.ptr.1)
+BeginsAt m at r = r.ref_ptr ≡ (m.ref_ptr.0, at * 4 + m.ref_ptr.1)
 
 -- the very part of m that stores those n words
 pub record Part (m : Bor (List ℕ)) (at n : ℕ) (r : Bor (List ℕ)) : Type 0 where
