@@ -98,11 +98,11 @@ module _ (link : ℕ → ℕ → Bool) (s : List ℕ) where
 
   -- nothing that links lead to is missing in a group
   pub joined_group : (a b : ℕ) → Joined link s a b → has b (group_of link s a) ≡ true
-  joined_group a b r = go (group_self a (joined_first r)) r
+  joined_group a b r = go r (group_self a (joined_first r))
     where
-      go : {c : ℕ} → has c (group_of link s a) ≡ true → Joined link s c b → has b (group_of link s a) ≡ true
-      go e (here h) = e
-      go e (onward {a = c} {b = d} h l q) = go (group_closed a c d e (joined_first q) l) q
+      go : {c : ℕ} → Joined link s c b → has c (group_of link s a) ≡ true → has b (group_of link s a) ≡ true
+      go (here h) e = e
+      go (onward {a = c} {b = d} h l q) e = go q (group_closed a c d e (joined_first q) l)
 
   -- a group of an ascending list ascends
   pub group_ascends : (a : ℕ) → Ascending s → Ascending (group_of link s a)

@@ -37,12 +37,12 @@ unfolding point_of position_of
 point_made l v at x y z place ex ey ez fx fy fz =
     rw (← place, ← ex, ← ey, ← ez, to_z-of_z w16 x fx, to_z-of_z w16 y fy, to_z-of_z w16 z fz) (refl, record { x = fx; y = fy; z = fz })
 
-pub at : {p : Point} {a : Metres} → (p ≡ point_of a) × Sixteen a → At p a
+pub at : {p : Point} {a : Metres} → p ≡ point_of a → Sixteen a → At p a
 unfolding point_of
-at {p = p} {a = a} h = subst (λ (q : Point). At q a) (sym h.0) (record {
-  x = near_int binary64 a.x 32768 h.1.x.sfits;
-  y = near_int binary64 a.y 32768 h.1.y.sfits;
-  z = near_int binary64 a.z 32768 h.1.z.sfits;
+at {p = p} {a = a} is h = subst (λ (q : Point). At q a) (sym is) (record {
+  x = near_int binary64 a.x 32768 h.x.sfits;
+  y = near_int binary64 a.y 32768 h.y.sfits;
+  z = near_int binary64 a.z 32768 h.z.sfits;
 })
 
 -- the three floats of an edge

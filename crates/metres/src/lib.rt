@@ -28,7 +28,7 @@ pub struct Point {
 // A number of the list, or 0 beyond its end.
 pub fn metre(positions: &[i16], at: usize) -> i16
     ensures value { result ≡ get_or positions.now at (pos 0) }
-    ensures sfits { SFits w16 result }
+    ensures fits { SFits w16 result }
 {
     if at < positions.len() {
         return positions[at];
@@ -55,7 +55,7 @@ pub fn point_at(positions: &[i16], v: Mark) -> Point
 // The squared length of the edge from a to b.
 pub fn squared_length(positions: &[i16], a: Mark, b: Mark) -> f64
     ensures value { result ≡ of_int binary64 (squared (edge positions.now a.0 b.0)) }
-    ensures t { T (in_float binary64 (squared (edge positions.now a.0 b.0))) }
+    ensures fits { T (in_float binary64 (squared (edge positions.now a.0 b.0))) }
 {
     let p = point_at(positions, a);
     let q = point_at(positions, b);
@@ -68,7 +68,7 @@ pub fn squared_length(positions: &[i16], a: Mark, b: Mark) -> f64
 // The doubled signed plan area between the edges from a to b and from c to d.
 pub fn doubled_area(positions: &[i16], a: Mark, b: Mark, c: Mark, d: Mark) -> f64
     ensures value { result ≡ of_int binary64 (crossed (edge positions.now a.0 b.0) (edge positions.now c.0 d.0)) }
-    ensures t { T (in_float binary64 (crossed (edge positions.now a.0 b.0) (edge positions.now c.0 d.0))) }
+    ensures fits { T (in_float binary64 (crossed (edge positions.now a.0 b.0) (edge positions.now c.0 d.0))) }
 {
     let p = point_at(positions, a);
     let q = point_at(positions, b);
@@ -80,7 +80,7 @@ pub fn doubled_area(positions: &[i16], a: Mark, b: Mark, c: Mark, d: Mark) -> f6
 // The sixfold signed volume of four marks.
 pub fn sixfold_volume(positions: &[i16], a: Mark, b: Mark, c: Mark, d: Mark) -> f64
     ensures value { result ≡ of_int binary64 (sixfold (edge positions.now a.0 b.0) (edge positions.now a.0 c.0) (edge positions.now a.0 d.0)) }
-    ensures t { T (in_float binary64 (sixfold (edge positions.now a.0 b.0) (edge positions.now a.0 c.0) (edge positions.now a.0 d.0))) }
+    ensures fits { T (in_float binary64 (sixfold (edge positions.now a.0 b.0) (edge positions.now a.0 c.0) (edge positions.now a.0 d.0))) }
 {
     let o = point_at(positions, a);
     let p = point_at(positions, b);

@@ -36,5 +36,5 @@ returns-in-7 c = row_at 7 _ _ c.in-7.is refl
 
 pub returns-in_default : goal.returns-in_default
 returns-in_default c =
-    let other = c.in_default.rest in
+    let other = c.in_default.in_default-own.rest in
     row_none _ (λ some. past 7 _ (past 6 _ (past 5 _ (past 4 _ (past 3 _ (past 2 _ (past 1 _ some other.0.0.0.0.0.0.1) other.0.0.0.0.0.1) other.0.0.0.0.1) other.0.0.0.1) other.0.0.1) other.0.1) other.1)

@@ -33,4 +33,4 @@ pub returns-else-n-eq4-3 : goal.returns-else-n-eq4-3
 returns-else-n-eq4-3 c = λ other. sibling_no _ _ c.byte_at-code.ensures c.in-91.is c.if-n-eq4-3.false
 
 pub returns-in_default : goal.returns-in_default
-returns-in_default c = λ other. none_of _ _ c.byte_at-code.ensures c.in_default.rest.0.0.0.0.1 other c.in_default.rest.0.0.0.1 c.in_default.rest.0.0.1 c.in_default.rest.0.1 c.in_default.rest.1
+returns-in_default c = λ other. none_of _ _ c.byte_at-code.ensures c.in_default.in_default-own.rest.0.0.0.0.1 other c.in_default.in_default-own.rest.0.0.0.1 c.in_default.in_default-own.rest.0.0.1 c.in_default.in_default-own.rest.0.1 c.in_default.in_default-own.rest.1

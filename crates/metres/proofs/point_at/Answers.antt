@@ -5,5 +5,6 @@ use Rattle.metres.proofs.point_at.Goals as goal
 
 pub returns : goal.returns
 returns c =
-    point_made _ _ _ _ _ _ refl c.metre-x.ensures.0 c.metre-y.ensures.0 c.metre-z.ensures.0
-    c.metre-x.ensures.1 c.metre-y.ensures.1 c.metre-z.ensures.1
+    let e = point_made _ _ _ _ _ _ refl c.metre-x.ensures.value c.metre-y.ensures.value c.metre-z.ensures.value
+    c.metre-x.ensures.fits c.metre-y.ensures.fits c.metre-z.ensures.fits in
+    record { value = e.0; sixteen = e.1 }

@@ -15,4 +15,4 @@ pub returns-in-4 : goal.returns-in-4
 returns-in-4 c = of_tetra _ _ _ _ _ _ _ c.in-4.is c.sixfold_volume.ensures.0
 
 pub returns-in_default : goal.returns-in_default
-returns-in_default c = of_none _ _ _ _ _ _ c.in_default.rest.0.0.0.1 c.in_default.rest.0.0.1 c.in_default.rest.0.1 c.in_default.rest.1
+returns-in_default c = of_none _ _ _ _ _ _ c.in_default.in_default-own.rest.0.0.0.1 c.in_default.in_default-own.rest.0.0.1 c.in_default.in_default-own.rest.0.1 c.in_default.in_default-own.rest.1

@@ -38,4 +38,4 @@ returns-in-7 c = by_code number _ 7 c.in-7.is
 
 pub returns-in_default : goal.returns-in_default
 unfolding no_shape shapes facet_count
-returns-in_default c = no_type number _ c.in_default.rest
+returns-in_default c = no_type number _ c.in_default.in_default-own.rest

@@ -17,4 +17,4 @@ returns-in-2 c = way_is 2 _ _ c.sibling_word.ensures c.in-2.is
 
 pub returns-in_default : goal.returns-in_default
 unfolding way_at
-returns-in_default c = way_last _ _ c.sibling_word.ensures c.in_default.rest.0.0.1 c.in_default.rest.0.1 c.in_default.rest.1
+returns-in_default c = way_last _ _ c.sibling_word.ensures c.in_default.in_default-own.rest.0.0.1 c.in_default.in_default-own.rest.0.1 c.in_default.in_default-own.rest.1
