@@ -7,7 +7,7 @@ use Rattle.record_checks.proofs.Steps.{go_start, go_end, go_no, go_more, go_full
 use Rattle.record_checks.proofs.chain_ok.Goals as goal
 
 pub loop-n-init : goal.loop-n-init
-loop-n-init c = (omega arith, omega (arith, c.first_of-link.type-inv), go_start _ _ _ _ c.first_of-link.ensures)
+loop-n-init c = (omega arith, omega (arith, c.first_of-link.type_inv), go_start _ _ _ _ c.first_of-link.ensures)
 
 pub returns-then-link-eq0 : goal.returns-then-link-eq0
 returns-then-link-eq0 c =
@@ -19,7 +19,7 @@ returns-then-not-stands c =
 
 pub loop-n-preserved : goal.loop-n-preserved
 loop-n-preserved c =
-    (omega arith, omega (arith, c.link_of-link.type-inv), go_more _ _ _ c.loop-n.n c.loop-n.link _ c.loop-n.low _ c.loop-n.invariant.2 (omega arith) (omega arith) (sym c.stands.ensures ∙ not-false _ c.if-not-stands.false-raw) c.link_of-link.ensures)
+    (omega arith, omega (arith, c.link_of-link.type_inv), go_more _ _ _ c.loop-n.n c.loop-n.link _ c.loop-n.low _ c.loop-n.invariant.2 (omega arith) (omega arith) (sym c.stands.ensures ∙ not-false _ c.if-not-stands.false-raw) c.link_of-link.ensures)
 
 pub returns-then-link-ne0 : goal.returns-then-link-ne0
 returns-then-link-ne0 c =

@@ -1,12 +1,12 @@
 -- `sibling::sharers` meets its contract.
 use mathlib.Core.Path.{refl, ◌∙◌}
-use mathlib.Core.Logic.{⊎_elim}
 use Prim.Native.Nat.{◌-◌}
 use native.Mathlib.Omega.{arith}
 use Rattle.chain.proofs.Places.{head_word_lem}
 use Rattle.chain.proofs.Readied.{ready_linked}
 use Rattle.sibling.proofs.Written.{going_start, going_more, going_none, going_end, going_full, shared_list}
 use Rattle.sibling.proofs.sharers.Goals as goal
+use Rattle.sibling.proofs.sharers.Goals.{then-f-lt-NO_FACET, else-f-lt-NO_FACET}
 
 pub loop-i-init : goal.loop-i-init
 loop-i-init c = (omega arith, omega arith, refl, λ s v p l e. going_start _ _ s v _ _ e)
@@ -26,26 +26,26 @@ returns-then-link-eq0 c =
 pub loop-i-preserved : goal.loop-i-preserved
 loop-i-preserved c =
     let loop = c.loop-i in
-    ⊎_elim
-    (λ w. (
-      omega arith,
-      omega (arith, w.7),
-      rw w.6 (w.3.kept.0 ∙ loop.invariant.2),
-      λ s v p l e.
-          rw (w.6, w.7)
-          (going_more _ _ s v _ _ p l _ _ _ _ _ _ _ (loop.invariant.3 s v p l e) (omega arith) c.link_of-link.ensures c.matching-f.ensures
-          (omega arith) _ _ w.0.taken w.1.ensures w.3.ensures),
-    ))
-    (λ w. (
-      omega arith,
-      omega (arith, w.2),
-      rw w.1 loop.invariant.2,
-      λ s v p l e.
-          rw (w.1, w.2)
-          (going_none _ _ s v _ _ p l _ _ _ _ _ _ _ (loop.invariant.3 s v p l e) (omega arith) c.link_of-link.ensures c.matching-f.ensures
-          (omega arith) w.0.left),
-    ))
-    c.if-f-lt-NO_FACET.branch
+    elim c.if-f-lt-NO_FACET.branch [
+      | then-f-lt-NO_FACET w ↦ (
+        omega arith,
+        omega (arith, w.n-is),
+        rw w.out-is (w.put.auto.m ∙ loop.invariant.2),
+        λ s v p l e.
+            rw (w.out-is, w.n-is)
+            (going_more _ _ s v _ _ p l _ _ _ _ _ _ _ (loop.invariant.3 s v p l e) (omega arith) c.link_of-link.ensures c.matching-f.ensures
+            (omega arith) _ _ w.if-f-lt-NO_FACET.true w.half_of-half.ensures w.put.ensures),
+      )
+      | else-f-lt-NO_FACET w ↦ (
+        omega arith,
+        omega (arith, w.n-is),
+        rw w.out-is loop.invariant.2,
+        λ s v p l e.
+            rw (w.out-is, w.n-is)
+            (going_none _ _ s v _ _ p l _ _ _ _ _ _ _ (loop.invariant.3 s v p l e) (omega arith) c.link_of-link.ensures c.matching-f.ensures
+            (omega arith) w.if-f-lt-NO_FACET.false),
+      )
+    ]
 
 pub returns : goal.returns
 returns c =
