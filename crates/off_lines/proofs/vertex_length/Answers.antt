@@ -44,5 +44,5 @@ overflow_add-result-3 c =
 
 pub returns : goal.returns
 returns c =
-    vertex_long _ _ _ _ _ _ _ _ c.metre.ensures.0 c.metre.ensures.1 refl c.metre-2.ensures.0 c.metre-2.ensures.1 refl
-    c.metre-3.ensures.0 c.metre-3.ensures.1 refl _ _ _ c.coordinate_length-x.ensures c.coordinate_length-y.ensures c.coordinate_length-z.ensures
+    vertex_long _ _ _ _ _ _ _ _ c.metre.ensures.value c.metre.ensures.fits refl c.metre-2.ensures.value c.metre-2.ensures.fits refl
+    c.metre-3.ensures.value c.metre-3.ensures.fits refl _ _ _ c.coordinate_length-x.ensures c.coordinate_length-y.ensures c.coordinate_length-z.ensures

@@ -10,7 +10,7 @@ loop-i-init c = (omega arith, wrote_none _ _ _)
 pub loop-i-preserved : goal.loop-i-preserved
 loop-i-preserved c = (
   omega (arith, c.loop-i-test.true),
-  wrote_point _ _ _ c.loop-i.i _ _ _ _ _ _ c.corner_of-v.ensures c.point_at-p.ensures.0 c.loop-i.invariant.1 c.put_float.ensures c.put_float-in-loop-i.ensures c.put_float-in-loop-i-2.ensures,
+  wrote_point _ _ _ c.loop-i.i _ _ _ _ _ _ c.corner_of-v.ensures c.point_at-p.ensures.value c.loop-i.invariant.1 c.put_float.ensures c.put_float-in-loop-i.ensures c.put_float-in-loop-i-2.ensures,
 )
 
 pub returns : goal.returns
