@@ -9,8 +9,7 @@ pub loop-i-init : goal.loop-i-init
 loop-i-init c = going_start _ _ _ _ _ _ _ refl refl
 
 pub overflow_add-i : goal.overflow_add-i
-overflow_add-i c =
-    record { fits = omega (arith, c.loop-i-test.true, c.well_formed.1.1.1.1.1.0.0) }
+overflow_add-i c = record { fits = omega (arith, c.loop-i-test.true, c.well_formed.1.1.1.1.1.0.0) }
 
 pub loop-i-preserved : goal.loop-i-preserved
 loop-i-preserved c =
@@ -26,7 +25,7 @@ pub shape_of-starting-else-has_room : goal.shape_of-starting-else-has_room
 shape_of-starting-else-has_room c = c.loop-i.invariant.inside.start.size
 
 pub shape_of-line-else-has_room : goal.shape_of-line-else-has_room
-shape_of-line-else-has_room c = c.loop-i.invariant.inLine.size
+shape_of-line-else-has_room c = c.loop-i.invariant.in_line.size
 
 pub shape_of-out-else-has_room : goal.shape_of-out-else-has_room
 shape_of-out-else-has_room c = going_length _ _ _ _ _ _ _ _ _ _ _ c.loop-i.invariant
@@ -44,7 +43,7 @@ pub shape_of-starting-after-loop-i : goal.shape_of-starting-after-loop-i
 shape_of-starting-after-loop-i c = c.loop-i.invariant.inside.start.size
 
 pub shape_of-line-after-loop-i : goal.shape_of-line-after-loop-i
-shape_of-line-after-loop-i c = c.loop-i.invariant.inLine.size
+shape_of-line-after-loop-i c = c.loop-i.invariant.in_line.size
 
 pub shape_of-out-after-loop-i : goal.shape_of-out-after-loop-i
 shape_of-out-after-loop-i c = going_length _ _ _ _ _ _ _ _ _ _ _ c.loop-i.invariant
