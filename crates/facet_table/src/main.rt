@@ -1,58 +1,59 @@
 // Prints the facet numbering from the proved table: a line for each type, in code order.
 #![tactic(auto)]
 
-use libc::STDOUT_FILENO;
 use shapes::{CODES, FacetTable};
+use std::io;
 
-fn write_type(t: u32) {
+fn write_type(rt: &impl Print, t: u32) -> io::Result<()> {
     match t {
-        1 => io::write_all(STDOUT_FILENO, b"BAR_2"),
-        2 => io::write_all(STDOUT_FILENO, b"TRI_3"),
-        3 => io::write_all(STDOUT_FILENO, b"QUAD_4"),
-        4 => io::write_all(STDOUT_FILENO, b"TETRA_4"),
-        5 => io::write_all(STDOUT_FILENO, b"PYRA_5"),
-        6 => io::write_all(STDOUT_FILENO, b"PENTA_6"),
-        7 => io::write_all(STDOUT_FILENO, b"HEXA_8"),
-        _ => io::write_all(STDOUT_FILENO, b"?"),
-    };
+        1 => rt.print("BAR_2"),
+        2 => rt.print("TRI_3"),
+        3 => rt.print("QUAD_4"),
+        4 => rt.print("TETRA_4"),
+        5 => rt.print("PYRA_5"),
+        6 => rt.print("PENTA_6"),
+        7 => rt.print("HEXA_8"),
+        _ => rt.print("?"),
+    }
 }
 
-fn write_number(n: u32) {
-    io::print_decimal(STDOUT_FILENO, n as u64);
+fn write_number(rt: &impl Print, n: u32) -> io::Result<()> {
+    rt.print(n)
 }
 
 // One facet, as (0,1).
-fn write_facet(rows: &FacetTable, t: u32, f: u32) {
-    io::write_all(STDOUT_FILENO, b" (");
+fn write_facet(rt: &impl Print, rows: &FacetTable, t: u32, f: u32) -> io::Result<()> {
+    rt.print(" (")?;
     let corners = shapes::column(rows, t, f, 0);
     for k in 0..corners {
         if 0 < k {
-            io::write_all(STDOUT_FILENO, b",");
+            rt.print(",")?;
         }
-        write_number(shapes::column(rows, t, f, k + 1));
+        write_number(rt, shapes::column(rows, t, f, k + 1))?;
     }
-    io::write_all(STDOUT_FILENO, b")");
+    rt.print(")")
 }
 
-fn write_line(rows: &FacetTable, t: u32) {
-    write_number(t);
-    io::write_all(STDOUT_FILENO, b" ");
-    write_type(t);
-    io::write_all(STDOUT_FILENO, b" dimension ");
-    write_number(shapes::dimension(t));
-    io::write_all(STDOUT_FILENO, b" marks ");
-    write_number(shapes::mark_count(t));
-    io::write_all(STDOUT_FILENO, b" facets");
+fn write_line(rt: &impl Print, rows: &FacetTable, t: u32) -> io::Result<()> {
+    write_number(rt, t)?;
+    rt.print(" ")?;
+    write_type(rt, t)?;
+    rt.print(" dimension ")?;
+    write_number(rt, shapes::dimension(t))?;
+    rt.print(" marks ")?;
+    write_number(rt, shapes::mark_count(t))?;
+    rt.print(" facets")?;
     let facets = shapes::facet_count(t);
     for f in 0..facets {
-        write_facet(rows, t, f);
+        write_facet(rt, rows, t, f)?;
     }
-    io::write_all(STDOUT_FILENO, b"\n");
+    rt.print("\n")
 }
 
-fn main() {
+fn main(rt: HostRuntime) -> io::Result<()> {
     let rows = shapes::facet_table();
     for t in 1..CODES {
-        write_line(&rows, t);
+        write_line(&rt, &rows, t)?;
     }
+    Ok(())
 }
