@@ -2,16 +2,15 @@
 use mathlib.Core.Path.{◌≡◌, refl, sym, ap, ◌∙◌}
 use mathlib.Core.Bool.{Bool, true, false, cond}
 use mathlib.Core.List.{List, [], ◌++◌, append_assoc, append-nil}
-use Prim.Native.Nat.{ℕ, zero, suc, ◌+◌, ◌-◌, ◌<◌, ◌≤◌, min}
+use Prim.Native.Nat.{ℕ, zero, suc, ◌+◌, ◌-◌, ◌<◌, ◌≤◌}
 use native.Mathlib.Decide.{dec_lt}
 use native.Mathlib.Omega.{arith}
-use borrow.Author.Tests.{le-ltb, lt-ltb, leb-true}
+use borrow.Author.Tests.{le-ltb, lt-ltb}
 use lib.Dec.{leb}
-use lib.IntN.{ℤ, pos, negsuc}
-use lib.Signed.{mag}
 use lib.ListN.{length, take, drop}
 use lib.Seq.{take-take, drop-drop, take-add}
-use Rattle.io.specs.Counts.{clamp_len}
+use Rattle.std.specs.Prelude.{None, is_none, Result, Ok, Err}
+use Rattle.std.specs.declared.io.Error.{Error}
 use Rattle.numbers.specs.Room.{room}
 use Rattle.words.specs.Words.{part_of}
 use Rattle.words.proofs.Fits.{part_fits, part_none}
@@ -26,11 +25,11 @@ use Rattle.frames.specs.Frames.{Journal, output_from, output}
 use Rattle.reply.specs.Memory.{Memory, memory}
 use Rattle.reply.specs.Replied.{format_answer}
 use Rattle.input.specs.Standing.{Standing, Reached}
-use Rattle.input.specs.Fed.{Started, Feeding, Finished}
+use Rattle.input.specs.Fed.{Started}
 use Rattle.input.proofs.Going.{reached_then}
 use Rattle.input.proofs.Runs.{fed_text, end_text}
 use Rattle.desk.specs.declared.Turn.{Turn}
-use Rattle.desk.specs.Turns.{rest, Answered, EndAnswered, AfterRead, Turned, read_in, begin, Turns, begun, turned, Served, Ran}
+use Rattle.desk.specs.Turns.{rest, Answered, EndAnswered, counted, AfterRead, read_in, begin, Turns, begun, turned, Served, Ran}
 use Rattle.desk.proofs.Turning.{part_most}
 
 clash : {b : Bool} → b ≡ true → b ≡ false → ⊥
@@ -68,9 +67,9 @@ left_cut l from to k h few = go (dec_lt (length l) to)
         ∙ (ap (λ (x : List ℕ). x ++ take (to - (from + k)) (drop k (drop from l))) (sym (take-take k (to - from) (drop from l) most) ∙ ap (take k) (sym whole))
         ∙ ap (λ (x : List ℕ). take k (part_of l from (to - from)) ++ x) (ap (take (to - (from + k))) (drop-drop k from l) ∙ sym later))))
 
-clamped_most : (got : ℤ) (most : ℕ) → clamp_len got most ≤ most
-clamped_most (pos k) most = omega arith
-clamped_most (negsuc k) most = omega arith
+counted_most : (got : Result ℕ Error) (most : ℕ) → counted got most ≤ most
+counted_most (Ok k) most = omega arith
+counted_most (Err e) most = omega arith
 
 -- what has been read is what was taken and what is left, and what was written is the output of what was taken
 record Reads (m : Journal) (w : Memory) (line piece : List ℕ) (t : Turn) (read wrote : List ℕ) : Type 0 where
@@ -97,12 +96,12 @@ module _ (m : Journal) {w : Memory} {line piece read wrote o : List ℕ} {w' : M
         reached = rw (text, a.kept) (reached_then p.reached q);
       }
 
-  reads_more : (got : ℤ) → t.to ≤ t.from → AfterRead got t.length piece' o r o' → (got ≡ pos 0 → ⊥) → w' ≡ w → line' ≡ line
+  reads_more : (got : Result ℕ Error) → t.to ≤ t.from → AfterRead got t.length piece' o r o' → (got ≡ Ok 0 → ⊥) → w' ≡ w → line' ≡ line
       → Reads m w' line' piece' r (read ++ read_in t r piece') (wrote ++ take r.wrote o')
   unfolding rest read_in
   reads_more got h a ne mesh same =
       let q = a.more ne in
-      let fits : r.to ≤ length piece' = omega (arith, q.3, clamped_most got (length piece')) in
+      let fits : r.to ≤ length piece' = omega (arith, q.3, counted_most got (length piece')) in
       let size : r.to - 0 ≡ r.to = omega arith in
       let left : rest piece' r ≡ take r.to piece' = rw (q.2, size) (part_fits piece' 0 r.to (omega (arith, fits))) in
       let nothing : rest piece t ≡ [] = none_left piece t.from (t.to - t.from) (omega arith) in
@@ -115,14 +114,14 @@ module _ (m : Journal) {w : Memory} {line piece read wrote o : List ℕ} {w' : M
         reached = rw (mesh, same, q.1, q.4, append-nil wrote) p.reached;
       }
 
--- the answer of a read that is not 0 is another number
-zero_or : (got : ℤ) → Dec (got ≡ pos 0)
-zero_or (pos zero) = yes refl
-zero_or (pos (suc k)) = no (λ e. let z : ◌≡◌ {A = ℕ} (suc k) 0 = ap mag e in omega arith)
-zero_or (negsuc k) = no (λ e. let z : ◌≡◌ {A = ℕ} 0 1 = cc in omega arith)
+-- a read answers 0 bytes, or something else
+zero_or : (got : Result ℕ Error) → Dec (got ≡ Ok 0)
+zero_or (Ok zero) = yes refl
+zero_or (Ok (suc k)) = no (λ e. let z : suc k ≡ 0 = cc in omega arith)
+zero_or (Err e) = no (λ z. cc)
 
 -- a turn that goes on has not ended
-on_goes : {n : ℕ} {w₀ : Memory} {line₀ : List ℕ} {w : Memory} {line piece read wrote : List ℕ} {t : Turn} → Turns n w₀ line₀ w line piece t read wrote → t.on ≡ true → t.ended ≡ false
+on_goes : {n : ℕ} {w₀ : Memory} {line₀ : List ℕ} {w : Memory} {line piece : List ℕ} {t : Turn} {read wrote : List ℕ} → Turns n w₀ line₀ w line piece t read wrote → t.on ≡ true → t.ended ≡ false
 unfolding begin
 on_goes begun on = refl
 on_goes (turned {t = t} {r = r} turns before h a) on = go (dec_lt t.from t.to)
@@ -133,9 +132,25 @@ on_goes (turned {t = t} {r = r} turns before h a) on = go (dec_lt t.from t.to)
         let q = a.reads (omega arith) in
         elim (zero_or q.0) [ yes e ↦ absurd (clash on (q.1.end e).stops) | no ne ↦ (q.1.more ne).0 ]
 
+-- a turn that stops without a failure has ended
+stops_ended : {n : ℕ} {w₀ : Memory} {line₀ : List ℕ} {w : Memory} {line piece : List ℕ} {t : Turn} {read wrote : List ℕ} → Turns n w₀ line₀ w line piece t read wrote → t.on ≡ false → t.failed ≡ None
+    → t.ended ≡ true
+unfolding begin
+stops_ended begun off none = absurd (clash refl off)
+stops_ended (turned {t = t} {r = r} turns before h a) off none = go (dec_lt t.from t.to)
+  where
+    goes : r.on ≡ is_none r.failed → ⊥
+    goes e = clash (e ∙ ap is_none none) off
+
+    go : Dec (t.from < t.to) → r.ended ≡ true
+    go (yes less) = absurd (goes (a.answers less).0.stops)
+    go (no f) =
+        let q = a.reads (omega arith) in
+        elim (zero_or q.0) [ yes e ↦ (q.1.end e).ends | no ne ↦ absurd (goes (q.1.stops ne).0) ]
+
 module _ (m : Journal) where
   -- while the input has not ended
-  served_so_far : {n : ℕ} {w₀ : Memory} {line₀ : List ℕ} {w : Memory} {line piece read wrote : List ℕ} {t : Turn} → Standing w₀ line₀ 0 m [] → Turns n w₀ line₀ w line piece t read wrote → t.ended ≡ false
+  served_so_far : {n : ℕ} {w₀ : Memory} {line₀ : List ℕ} {w : Memory} {line piece : List ℕ} {t : Turn} {read wrote : List ℕ} → Standing w₀ line₀ 0 m [] → Turns n w₀ line₀ w line piece t read wrote → t.ended ≡ false
       → Reads m w line piece t read wrote
   unfolding begin rest
   served_so_far {piece = piece} s begun goes = record { taken = []; all = sym (none_left piece 0 (0 - 0) refl); reached = record { journal = m; sofar = []; stands = s; output = λ _. refl } }
@@ -149,7 +164,7 @@ module _ (m : Journal) where
           reads_more m p h q.0 (omega arith) q.1 (λ e. clash (q.1.end e).ends goes) q.2 q.3
 
   -- at its end
-  pub served_output : {n : ℕ} {w₀ : Memory} {line₀ : List ℕ} {w : Memory} {line piece read wrote : List ℕ} {t : Turn} → Standing w₀ line₀ 0 m [] → Turns n w₀ line₀ w line piece t read wrote → t.ended ≡ true
+  pub served_output : {n : ℕ} {w₀ : Memory} {line₀ : List ℕ} {w : Memory} {line piece : List ℕ} {t : Turn} {read wrote : List ℕ} → Standing w₀ line₀ 0 m [] → Turns n w₀ line₀ w line piece t read wrote → t.ended ≡ true
       → wrote ≡ output_from m [] read
   unfolding begin rest read_in
   served_output s begun ends = absurd (clash ends refl)
@@ -187,6 +202,7 @@ program_output w j s line w₀ w' line' v r hw hj hs fits started served = recor
   line' = line';
   served = served;
   answers = λ ends. served_output (Frames.begun 1000 0 0) (rw (thousand (length j) hj) at (started.stands accepted line fits)) served.turns ends;
+  ends = stops_ended served.turns;
 }
   where
     accepted : v ≡ Accepted

@@ -1,6 +1,8 @@
 -- What the program does between the calls of the system, and what comes of all its turns.
-use Rattle.std.specs.Prelude.{◌≡◌, true, false, cond, List, [], ◌++◌, ℕ, suc, ◌+◌, ◌-◌, ◌<◌, ◌≤◌, ltb, ℤ, pos, length, take}
-use Rattle.io.specs.Counts.{clamp_len}
+use Rattle.std.specs.Prelude.{◌≡◌, true, false, cond, List, [], ◌++◌, ℕ, suc, ◌+◌, ◌-◌, ◌<◌, ◌≤◌, min, ltb, length, take, Option, Some, None, is_none, Result, Ok, Err}
+use Rattle.std.specs.IoError.{error_kind}
+use Rattle.std.specs.declared.io.Error.{Error}
+use Rattle.std.specs.declared.io.ErrorKind.TheVariants.{Interrupted}
 use Rattle.words.specs.Words.{part_of}
 use Rattle.frames.specs.Frames.{output}
 use Rattle.reply.specs.Memory.{Memory}
@@ -21,6 +23,7 @@ pub record Answered (w : Memory) (line : List ℕ) (t : Turn) (piece o : List �
   pub to : r.to ≡ t.to
   pub wrote : r.wrote ≡ fed.written
   pub goes : r.ended ≡ false
+  pub stops : r.on ≡ is_none r.failed
 
 -- the end of the input: the answer to a last line without its end is written
 pub record EndAnswered (n : ℕ) (o : List ℕ) (r : Turn) (o' : List ℕ) : Type 0 where
@@ -29,23 +32,34 @@ pub record EndAnswered (n : ℕ) (o : List ℕ) (r : Turn) (o' : List ℕ) : Typ
   pub stops : r.on ≡ false
   pub nothing : r.to ≡ 0
 
--- what comes of a read that answered got: 0 is the end of the input, else the piece holds as many bytes as it says
-pub record AfterRead (got : ℤ) (n : ℕ) (piece o : List ℕ) (r : Turn) (o' : List ℕ) : Type 0 where
-  pub end : got ≡ pos 0 → EndAnswered n o r o'
-  pub more : (got ≡ pos 0 → ⊥) → (r.ended ≡ false) × (r.length ≡ n) × (r.from ≡ 0) × (r.to ≡ clamp_len got (length piece)) × (r.wrote ≡ 0)
-  pub goes : 0 < clamp_len got (length piece) → r.on ≡ true
+-- how many bytes of the piece a read left, by its answer: none where it failed
+abbrev pub counted : Result ℕ Error → ℕ → ℕ
+counted (Ok k) most = min k most
+counted (Err e) most = 0
+
+-- what a read fails by: nothing where it got bytes, or where a signal interrupted it, so that it is tried again
+abbrev pub FailsBy : Result ℕ Error → Option Error → Type 0
+FailsBy (Ok k) failed = failed ≡ None
+FailsBy (Err e) failed = (error_kind e ≡ Interrupted → failed ≡ None) × ((error_kind e ≡ Interrupted → ⊥) → failed ≡ Some e)
+
+-- what comes of a read that answered got: 0 is the end of the input, else the piece holds as many bytes as it says; a failure stops
+pub record AfterRead (got : Result ℕ Error) (n : ℕ) (piece o : List ℕ) (r : Turn) (o' : List ℕ) : Type 0 where
+  pub end : got ≡ Ok 0 → EndAnswered n o r o'
+  pub more : (got ≡ Ok 0 → ⊥) → (r.ended ≡ false) × (r.length ≡ n) × (r.from ≡ 0) × (r.to ≡ counted got (length piece)) × (r.wrote ≡ 0)
+  pub goes : 0 < counted got (length piece) → r.on ≡ true
+  pub stops : (got ≡ Ok 0 → ⊥) → (r.on ≡ is_none r.failed) × FailsBy got r.failed
 
 -- one turn: what is left of the piece is answered; where nothing is left, another is read
 pub record Turned (w : Memory) (line : List ℕ) (t : Turn) (piece o : List ℕ) (r : Turn) (w' : Memory) (line' piece' o' : List ℕ) : Type 0 where
   pub answers : t.from < t.to → Answered w line t piece o r w' line' o' × (piece' ≡ piece)
-  pub reads : t.to ≤ t.from → (got : ℤ) × AfterRead got t.length piece' o r o' × (w' ≡ w) × (line' ≡ line)
+  pub reads : t.to ≤ t.from → (got : Result ℕ Error) × AfterRead got t.length piece' o r o' × (w' ≡ w) × (line' ≡ line)
 
 -- the bytes that a turn read: what the read left in the first places of the piece
 unfoldable pub read_in : Turn → Turn → List ℕ → List ℕ
 read_in t r piece = cond (ltb t.from t.to) [] (take r.to piece)
 
 unfoldable pub begin : Turn
-begin = record { on = true; ended = false; length = 0; from = 0; to = 0; wrote = 0 }
+begin = record { on = true; ended = false; length = 0; from = 0; to = 0; wrote = 0; failed = None }
 
 -- turns one after another, while each says to go on: how many, what they read, and what they wrote
 pub data Turns : ℕ → Memory → List ℕ → Memory → List ℕ → List ℕ → Turn → List ℕ → List ℕ → Type 0 where
@@ -63,7 +77,7 @@ pub record Served (w : Memory) (line : List ℕ) (r : Turn) (w' : Memory) (line'
   pub turns : Turns count w line w' line' piece r read wrote
   pub stops : r.on ≡ true → count ≡ 18446744073709551615
 
--- from the start on: once the input has ended, what was written is the definition's output of what was read
+-- from the start on: once the input has ended, what was written is the definition's output of what was read; it stops at the end of the input or by a failure
 pub record Ran (r : Turn) : Type 0 where
   pub memory : Memory
   pub line : List ℕ
@@ -71,3 +85,4 @@ pub record Ran (r : Turn) : Type 0 where
   pub line' : List ℕ
   pub served : Served memory line r memory' line'
   pub answers : r.ended ≡ true → served.wrote ≡ output served.read
+  pub ends : r.on ≡ false → r.failed ≡ None → r.ended ≡ true

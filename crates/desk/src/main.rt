@@ -1,21 +1,26 @@
 // The frame program: frames from standard input, answers to standard output.
 //
 // What is here: the loop of turns, each of which reads a piece of the input, or hands what is left of one to crates/input and writes what that
-// answers. What is proved: the program is safe and ends; what its turns hand to `write` is the definition's output of what `read` left in
-// the piece (specs/Turns.antt, proofs/Output.antt). What is not: that `read` and `write` move those bytes, docs/GAPS.md. What a user should
-// know: every line that has come is answered before more input is waited for; a read or write that fails ends the program with a line on
-// standard error. What it writes for `stdin` is held to `stdout`, the worked example of the outline.
+// answers. What is proved: the program is safe and ends; what its turns hand to `write_all` is the definition's output of what `read` left in
+// the piece (specs/Turns.antt, proofs/Output.antt). What is not: that `read` and `write_all` move those bytes, docs/GAPS.md. What a user should
+// know: every line that has come is answered before more input is waited for; a read or write that fails ends the program with its error. What it
+// writes for `stdin` is held to `stdout`, the worked example of the outline.
 #![tactic(auto)]
 
-ghost use Rattle.std.specs.Prelude.{◌≡◌, length};
+ghost use Rattle.std.specs.Prelude.{◌≡◌, ◌↔◌, IsTrue, length};
+ghost use Rattle.std.specs.IoError.{error_kind};
 ghost use Rattle.reply.specs.Memory.{memory};
 ghost use Rattle.desk.specs.Turns.{Answered, EndAnswered, AfterRead, Turned, Served, Ran};
 
 use input::{feed, finish, part, start};
-use libc::{STDIN_FILENO, STDOUT_FILENO};
+use std::io;
+use std::io::{ErrorKind, Read};
+
+// How many bytes are read at once, and written at once.
+const PIECE: usize = 65536;
 
 // Where the program stands after a turn: whether it goes on, whether the input has ended, how many bytes of its line are kept, from where
-// up to where its piece is not taken yet, and how many bytes the turn wrote.
+// up to where its piece is not taken yet, how many bytes the turn wrote, and the error of the read or write that failed in it.
 #[derive(Clone, Copy)]
 struct Turn {
     on: bool,
@@ -24,31 +29,30 @@ struct Turn {
     from: usize,
     to: usize,
     wrote: usize,
+    failed: Option<io::Error>,
 }
 
-// What became of a text: whether all of it was written, and how many bytes it has.
+// What became of a text: the error, where not all of it was written, and how many bytes it has.
 #[derive(Clone, Copy)]
 struct Sent {
-    whole: bool,
+    failed: Option<io::Error>,
     bytes: usize,
 }
 
 // A text written out.
-fn write_out(text: &[u8]) -> Sent
+fn write_out(rt: HostRuntime, text: &[u8]) -> Sent
     ensures { result.bytes ≡ length text.now }
 {
-    let whole = io::write_all(STDOUT_FILENO, text);
-    if !whole {
-        os::fail(b"write");
-    }
+    let failed = rt.write_all(text).err();
     Sent {
-        whole,
+        failed,
         bytes: text.len(),
     }
 }
 
 // What is left of a piece answered, as far as the output has room.
 fn answer_piece(
+    rt: HostRuntime,
     mesh: &mut [u32],
     journal: &mut [u32],
     starting: &mut [u32],
@@ -68,23 +72,24 @@ fn answer_piece(
         part(piece, at.from, at.to),
         out,
     );
-    let sent = write_out(part(out, 0, fed.written));
+    let sent = write_out(rt, part(out, 0, fed.written));
     Turn {
-        on: sent.whole,
+        on: sent.failed.is_none(),
         ended: false,
         length: fed.length,
         from: at.from + fed.taken,
         to: at.to,
         wrote: sent.bytes,
+        failed: sent.failed,
     }
 }
 
 // The end of the input answered.
-fn answer_end(length: usize, out: &mut [u8]) -> Turn
+fn answer_end(rt: HostRuntime, length: usize, out: &mut [u8]) -> Turn
     ensures { EndAnswered length out.old result out.new }
 {
     let n = finish(length, out);
-    let sent = write_out(part(out, 0, n));
+    let sent = write_out(rt, part(out, 0, n));
     Turn {
         on: false,
         ended: true,
@@ -92,47 +97,56 @@ fn answer_end(length: usize, out: &mut [u8]) -> Turn
         from: 0,
         to: 0,
         wrote: sent.bytes,
+        failed: sent.failed,
     }
 }
 
-// Whether a read that failed was interrupted by a signal, and is tried again; any other failure is told.
-fn interrupted() -> bool {
-    let again = os::errno() == libc::EINTR;
-    if !again {
-        os::fail(b"read");
-    }
-    again
+// Whether a read that failed was interrupted by a signal, and is tried again.
+fn interrupted(error: io::Error) -> bool
+    ensures { IsTrue result ↔ (error_kind error ≡ ErrorKind.Interrupted) }
+{
+    error.kind() == ErrorKind::Interrupted
 }
 
 // What comes of a read, by its answer.
-fn after_read(got: isize, length: usize, piece: &[u8], out: &mut [u8]) -> Turn
+fn after_read(
+    rt: HostRuntime,
+    got: io::Result<usize>,
+    length: usize,
+    piece: &[u8],
+    out: &mut [u8],
+) -> Turn
     ensures { AfterRead got length piece.now out.old result out.new }
 {
-    if got == 0 {
-        return answer_end(length, out);
-    }
-    if got < 0 {
-        return Turn {
-            on: interrupted(),
+    match got {
+        Ok(0) => answer_end(rt, length, out),
+        Ok(count) => Turn {
+            on: true,
             ended: false,
             length,
             from: 0,
-            to: 0,
+            to: count.min(piece.len()),
             wrote: 0,
-        };
-    }
-    Turn {
-        on: true,
-        ended: false,
-        length,
-        from: 0,
-        to: io::count(got, piece),
-        wrote: 0,
+            failed: None,
+        },
+        Err(error) => {
+            let again = interrupted(error);
+            Turn {
+                on: again,
+                ended: false,
+                length,
+                from: 0,
+                to: 0,
+                wrote: 0,
+                failed: if again { None } else { Some(error) },
+            }
+        }
     }
 }
 
 // One turn: what is left of the piece is answered; where nothing is left, another is read.
 fn one_turn(
+    rt: HostRuntime,
     mesh: &mut [u32],
     journal: &mut [u32],
     starting: &mut [u32],
@@ -144,19 +158,25 @@ fn one_turn(
     ensures { Turned (memory mesh.old journal.old starting.old) line.old at piece.old out.old result (memory mesh.new journal.new starting.new) line.new piece.new out.new }
 {
     if at.from < at.to {
-        return answer_piece(mesh, journal, starting, line, at, piece, out);
+        return answer_piece(rt, mesh, journal, starting, line, at, piece, out);
     }
-    let got = libc::read(STDIN_FILENO, piece);
-    after_read(got, at.length, piece, out)
+    let got = rt.stdin().read(piece);
+    after_read(rt, got, at.length, piece, out)
 }
 
 // A proved loop has to end, and nothing says that the input does. So the loop counts its turns down, from a number that no run uses up.
-fn serve(mesh: &mut [u32], journal: &mut [u32], starting: &mut [u32], line: &mut [u8]) -> Turn
+fn serve(
+    rt: HostRuntime,
+    mesh: &mut [u32],
+    journal: &mut [u32],
+    starting: &mut [u32],
+    line: &mut [u8],
+) -> Turn
     ensures { Served (memory mesh.old journal.old starting.old) line.old result (memory mesh.new journal.new starting.new) line.new }
 {
-    let mut read = io::large_buffer();
+    let mut read = [0u8; PIECE];
     let piece: &mut [u8] = &mut read;
-    let mut written = io::large_buffer();
+    let mut written = [0u8; PIECE];
     let out: &mut [u8] = &mut written;
     let mut at = Turn {
         on: true,
@@ -165,17 +185,18 @@ fn serve(mesh: &mut [u32], journal: &mut [u32], starting: &mut [u32], line: &mut
         from: 0,
         to: 0,
         wrote: 0,
+        failed: None,
     };
     let mut turns = u64::MAX;
     while turns > 0 && at.on {
-        at = one_turn(mesh, journal, starting, line, piece, out, at);
+        at = one_turn(rt, mesh, journal, starting, line, piece, out, at);
         turns -= 1;
     }
     at
 }
 
 // The program, from its start to its end, with a journal of 1,000 edits.
-fn run() -> Turn
+fn run(rt: HostRuntime) -> Turn
     ensures { Ran result }
 {
     let mut mesh = [0u32; 15376];
@@ -183,9 +204,12 @@ fn run() -> Turn
     let mut starting = [0u32; 15376];
     let mut line = [0u8; 65];
     start(&mut mesh, &mut journal, &mut starting);
-    serve(&mut mesh, &mut journal, &mut starting, &mut line)
+    serve(rt, &mut mesh, &mut journal, &mut starting, &mut line)
 }
 
-fn main() {
-    run();
+fn main(rt: HostRuntime) -> io::Result<()> {
+    match run(rt).failed {
+        Some(error) => Err(error),
+        None => Ok(()),
+    }
 }
