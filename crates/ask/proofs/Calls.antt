@@ -20,7 +20,7 @@ use Rattle.map.specs.Ways.{way_number, way}
 use Rattle.map.specs.Stars.{anchors}
 use Rattle.map.specs.Answers.{answer, cell_checks, half_checks, star_checks, type_checks, type_answer, licence_answer, sibling_answer, border_answer, first_anchor_answer, count_answer, edition_answer, step_answer}
 use Rattle.map.specs.Free.{capacities_answer}
-use Rattle.map.specs.Says.{given, refused, value_says, pair_says, half_says, truth_says, found_says}
+use Rattle.map.specs.Says.{given, value_says, pair_says, half_says, truth_says, found_says}
 use Rattle.map.specs.declared.Refusal.{Refusal}
 use Rattle.map.specs.declared.Refusal.TheVariants.{NotMesh}
 use Rattle.map.specs.declared.Value.TheVariants as Value

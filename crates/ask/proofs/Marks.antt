@@ -15,7 +15,7 @@ use Rattle.shapes.specs.Shapes.{shape}
 use Rattle.numbers.specs.declared.Caps.{Caps}
 use Rattle.store.specs.declared.Opened.TheVariants.{Mesh}
 use Rattle.store.specs.Slots.{code_in, marks_at}
-use Rattle.store.specs.Open.{is_mesh, opened}
+use Rattle.store.specs.Open.{opened}
 use Rattle.map.specs.Cells.{Map, live, dimension_at}
 use Rattle.map.specs.Answers.{Answer, answer, cell_checks, type_answer, marks_part}
 use Rattle.map.specs.Says.{number_of, given, refused, verdict_says}

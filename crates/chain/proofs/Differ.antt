@@ -3,8 +3,8 @@
 use mathlib.Core.Path.{◌≡◌, refl, sym, ap, ap₂, ◌∙◌}
 use mathlib.Core.Bool.{Bool, true, false, cond, ◌&&◌}
 use mathlib.Core.List.{List}
-use Prim.Native.Nat.{ℕ, zero, suc, ◌+◌, ◌*◌, ◌-◌, ◌<◌, ◌≤◌}
-use native.Mathlib.Decide.{ℕ_discrete, dec_lt}
+use Prim.Native.Nat.{ℕ, zero, suc, ◌<◌, ◌≤◌}
+use native.Mathlib.Decide.{ℕ_discrete}
 use native.Mathlib.Omega.{arith}
 use borrow.Author.Tests.{ltb-true}
 use lib.Dec.{leb, ltb}
@@ -15,7 +15,7 @@ use Rattle.numbers.specs.declared.Caps.{Caps}
 use Rattle.store.specs.Fields.{First, Held, Anchor, MarkRest, Code, Licence, Near, Sib, Link, Far, CellRest}
 use Rattle.store.specs.Slots.{Slot, InHead, InMark, InCell, Within}
 use Rattle.picture.specs.State.{State, next}
-use Rattle.picture.specs.Picture.{chain_of, ahead, link_to, link, corner, link_word, head_word, mark_word, cell_word, word_of}
+use Rattle.picture.specs.Picture.{chain_of, ahead, link_to, link, corner, link_word, mark_word, cell_word, word_of}
 use Rattle.picture.specs.Changes.{with_link}
 use Rattle.chain.specs.Chain.{Linked}
 use Rattle.chain.specs.Walk.{last_below}

@@ -2,7 +2,7 @@
 use mathlib.Core.Path.{◌≡◌, refl, ◌∙◌}
 use mathlib.Core.Bool.{Bool, true, false, cond, ◌&&◌}
 use mathlib.Core.List.{List}
-use Prim.Native.Nat.{ℕ, zero, suc, ◌+◌, ◌*◌, ◌-◌, ◌/◌, ◌%◌, ◌<◌, ◌≤◌}
+use Prim.Native.Nat.{ℕ, zero, suc, ◌*◌, ◌/◌, ◌%◌, ◌<◌, ◌≤◌}
 use native.Mathlib.Omega.{arith}
 use borrow.Author.Tests.{lt-leb}
 use lib.Dec.{leb, ltb}
@@ -14,7 +14,7 @@ use Rattle.store.specs.Fields.{First, Link}
 use Rattle.store.specs.Slots.{InMark, InCell, read}
 use Rattle.map.specs.Cells.{Map}
 use Rattle.picture.specs.State.{State, state_of}
-use Rattle.picture.specs.Picture.{Pic, Wf, chain_of, ahead, link_to, link, corner, link_word, cell_word, word_of}
+use Rattle.picture.specs.Picture.{Wf, chain_of, ahead, link_to, link, corner, link_word, cell_word, word_of}
 use Rattle.picture.proofs.Settles.{wf_pic, wf_settled}
 use Rattle.chain.specs.Chain.{Linked, Inner, Inside}
 use Rattle.chain.proofs.Nexts.{from_first}

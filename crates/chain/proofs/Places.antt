@@ -1,13 +1,12 @@
 -- The words of a chain in a picture: the first link and the count of a mark, and the link at each corner of a cell.
-use mathlib.Core.Path.{◌≡◌, refl, sym, ap, ◌∙◌}
-use mathlib.Core.Bool.{Bool, true, false, cond}
+use mathlib.Core.Path.{◌≡◌, sym, ◌∙◌}
+use mathlib.Core.Bool.{true}
 use mathlib.Core.List.{List}
-use Prim.Native.Nat.{ℕ, zero, suc, ◌+◌, ◌*◌, ◌-◌, ◌/◌, ◌%◌, ◌<◌, ◌≤◌}
+use Prim.Native.Nat.{ℕ, suc, ◌-◌, ◌/◌, ◌%◌, ◌<◌}
 use native.Mathlib.Omega.{arith}
 use borrow.Author.Tests.{eq-eqb, ne_eqb, lt-ltb}
-use lib.Dec.{eqb}
-use lib.ListN.{get_or, length}
-use Rattle.lists.specs.Lists.{place, repeats}
+use lib.ListN.{length}
+use Rattle.lists.specs.Lists.{place}
 use Rattle.lists.proofs.Members.{once, place_at, place_is}
 use Rattle.numbers.specs.declared.Caps.{Caps}
 use Rattle.shapes.specs.Sizes.{most_marks}

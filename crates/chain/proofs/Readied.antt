@@ -1,17 +1,12 @@
 -- A ready state is linked, and its chains are the holders of the marks.
-use mathlib.Core.Path.{◌≡◌, refl, sym, ap, ◌∙◌}
-use mathlib.Core.Bool.{Bool, true}
-use mathlib.Core.List.{List}
-use Prim.Native.Nat.{ℕ, ◌≤◌}
+use mathlib.Core.Path.{◌≡◌, sym, ◌∙◌}
+use Prim.Native.Nat.{ℕ}
 use native.Mathlib.Omega.{arith}
-use lib.ListN.{length}
-use Rattle.lists.specs.Lists.{has, select}
 use Rattle.lists.proofs.Select.{select_same}
 use Rattle.shapes.proofs.Facts.{facts}
 use Rattle.numbers.specs.declared.Caps.{Caps}
-use Rattle.map.specs.Cells.{Map, holds}
+use Rattle.map.specs.Cells.{holds}
 use Rattle.map.specs.Stars.{holders}
-use Rattle.map.specs.Sound.{Sound}
 use Rattle.picture.specs.State.{State, map_with}
 use Rattle.picture.specs.Picture.{chain_of}
 use Rattle.picture.specs.Ready.{Ready}

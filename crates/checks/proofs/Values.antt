@@ -2,7 +2,7 @@
 use mathlib.Core.Path.{◌≡◌, refl, sym, ap}
 use mathlib.Core.Bool.{Bool, true, false, cond, not, ◌&&◌}
 use mathlib.Core.List.{List, [], ◌∷◌, ◌++◌}
-use Prim.Native.Nat.{ℕ, ◌≤◌}
+use Prim.Native.Nat.{ℕ}
 use native.Mathlib.Omega.{arith}
 use borrow.Author.Tests.{eqb-false, not-true}
 use lib.Dec.{eqb}
@@ -11,7 +11,7 @@ use Rattle.lists.proofs.Bools.{and_left, and_right}
 use Rattle.map.specs.declared.Refusal.{Refusal}
 use Rattle.map.specs.Answers.{Check, Answer, answer}
 use Rattle.map.proofs.Refusals.{number_some}
-use Rattle.map.specs.Says.{number_of, given, refused}
+use Rattle.map.specs.Says.{given, refused}
 
 -- no check of a row has it
 abbrev pub Numbered : List Check → Type 0

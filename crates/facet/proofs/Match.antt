@@ -1,8 +1,8 @@
 -- The first facet with a set of marks.
-use mathlib.Core.Path.{◌≡◌, refl, sym, ap, ◌∙◌}
+use mathlib.Core.Path.{◌≡◌, sym}
 use mathlib.Core.Bool.{Bool, true, false}
 use mathlib.Core.List.{List, ◌∷◌}
-use Prim.Native.Nat.{ℕ, ◌+◌, ◌<◌, ◌≤◌}
+use Prim.Native.Nat.{ℕ, ◌<◌}
 use Rattle.lists.specs.Lists.{has, all, same_set, select, first}
 use Rattle.lists.proofs.Order.{first_select}
 use Rattle.lists.proofs.Counts.{select_empty}

@@ -1,11 +1,11 @@
 -- The set that the table gives is the set of the definitions.
-use mathlib.Core.Path.{◌≡◌, refl, sym, ap, ◌∙◌}
+use mathlib.Core.Path.{◌≡◌, sym, ap, ◌∙◌}
 use mathlib.Core.Bool.{true}
 use mathlib.Core.List.{List, [], map}
 use Prim.Native.Nat.{ℕ, ◌<◌, ◌≤◌, min}
 use native.Mathlib.Omega.{arith}
 use lib.ListN.{get_or, length, get_or-map}
-use Rattle.lists.specs.Lists.{has, list_of}
+use Rattle.lists.specs.Lists.{has}
 use Rattle.lists.proofs.Fill.{length_list_of}
 use Rattle.lists.proofs.Members.{at_has}
 use Rattle.lists.proofs.Mapped.{list_at, list_map}

@@ -1,20 +1,17 @@
 -- Laws of dated edits in the order of their days.
-use mathlib.Core.Path.{◌≡◌, refl, sym, ap, ◌∙◌, subst}
-use mathlib.Core.Bool.{Bool, true, false, cond}
-use mathlib.Core.List.{List, [], ◌∷◌, ◌++◌, map, append_assoc, map-append}
-use Prim.Native.Nat.{ℕ, zero, suc, ◌+◌, ◌<◌, ◌≤◌}
+use mathlib.Core.Path.{◌≡◌, refl, ap, ◌∙◌, subst}
+use mathlib.Core.List.{List, [], ◌∷◌, ◌++◌, map, map-append}
+use Prim.Native.Nat.{ℕ, zero, suc, ◌<◌, ◌≤◌}
 use native.Mathlib.Decide.{dec_lt}
 use native.Mathlib.Omega.{arith}
 use borrow.Author.Tests.{lt-ltb, le-ltb}
-use lib.Dec.{ltb}
 use lib.ListN.{length, get_or, take, drop}
 use Rattle.map.specs.Cells.{Map}
-use Rattle.map.specs.Answers.{Answer}
-use Rattle.map.specs.History.{Edit, Insert, Remove, edit_answer, changed, edited, history}
+use Rattle.map.specs.History.{Edit, Insert, Remove, edit_answer, edited, history}
 use Rattle.laws.proofs.Edits.{edited_changed}
 use Rattle.journal_store.specs.Days as D
 use Rattle.journal_store.specs.Days.{Dated, before, since, up_to, map_after, map_on, last_or, last_day, ever_of, Ascends, Fits, AllFit}
-use Rattle.journal_store.specs.Entries.{edit_words, words_of, words_at}
+use Rattle.journal_store.specs.Entries.{edit_words, words_at}
 
 -- an edit that is earlier, and one that is not
 module _ (f : ℕ) (e : Dated) (es : List Dated) where

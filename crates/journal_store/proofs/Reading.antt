@@ -1,24 +1,21 @@
 -- What the words of a kept journal tell: its head, and each entry's day and edit.
 use mathlib.Core.Path.{◌≡◌, refl, sym, ap, ◌∙◌, subst}
-use mathlib.Core.Bool.{Bool, true, false, cond}
-use mathlib.Core.List.{List, [], ◌∷◌, ◌++◌, map, map-append}
+use mathlib.Core.Bool.{true}
+use mathlib.Core.List.{List, [], ◌∷◌, map, map-append}
 use mathlib.Core.Logic.{⊎_elim}
-use Prim.Native.Nat.{ℕ, zero, suc, ◌+◌, ◌-◌, ◌*◌, ◌/◌, ◌<◌, ◌≤◌, min}
+use Prim.Native.Nat.{ℕ, zero, suc, ◌+◌, ◌<◌, ◌≤◌}
 use native.Mathlib.Nat.{eq-or-lt_of_le}
 use native.Mathlib.Omega.{arith}
-use borrow.Author.Tests.{eq-eqb, ne_eqb, le-leb}
-use lib.Dec.{eqb, leb}
-use lib.ListN.{length, get_or, take, drop}
+use borrow.Author.Tests.{eq-eqb, le-leb}
+use lib.ListN.{length, get_or, take}
 use lib.Seq.{take-suc, get_or-append-add}
-use Rattle.words.specs.Words.{part_of}
 use Rattle.words.proofs.Fits.{part_is}
 use Rattle.numbers.specs.declared.Caps.{Caps}
-use Rattle.shapes.specs.Shapes.{shape}
 use Rattle.shapes.proofs.Facts.{facts}
 use Rattle.map.specs.History.{Edit, Insert, Remove}
 use Rattle.journal_store.specs.Days as D
 use Rattle.journal_store.specs.Days.{Dated, Fits, AllFit}
-use Rattle.journal_store.specs.Entries.{journal_magic, head_words, entry_words, most_entries, places_of, used_of, entry_at, head_of, insert_kind, edit_words, words_of, words_at}
+use Rattle.journal_store.specs.Entries.{head_words, entry_words, places_of, used_of, entry_at, insert_kind, edit_words, words_of, words_at}
 use Rattle.journal_store.specs.Journals.{entries_in, last_in, ever_in, fold_in, is_journal, day_in, edit_in, edits_in, Pictured}
 
 -- one more entry is of the day or earlier

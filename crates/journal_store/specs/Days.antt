@@ -1,9 +1,9 @@
 -- The map on any day: "each accepted edit with its day number, 0 to 65,535". The days are told by the list of dated edits since the journal
 -- began; no definition here knows of a journal's words.
-use Rattle.std.specs.Prelude.{◌≡◌, Bool, true, false, cond, not, ◌||◌, List, [], ◌∷◌, ◌++◌, map, ℕ, suc, ◌+◌, ◌≤◌, eqb, leb, ltb, length}
+use Rattle.std.specs.Prelude.{◌≡◌, Bool, cond, not, ◌||◌, List, [], ◌∷◌, ◌++◌, map, ℕ, suc, ◌+◌, ◌≤◌, eqb, leb, ltb, length}
 use Rattle.shapes.specs.Shapes.{shape}
 use Rattle.map.specs.Cells.{Map}
-use Rattle.map.specs.Answers.{Answer, Check, ◌when◌, answer}
+use Rattle.map.specs.Answers.{Answer, ◌when◌, answer}
 use Rattle.map.specs.History.{Edit, Insert, Remove, edit_answer, changed, history}
 
 -- "its day number, 0 to 65,535"

@@ -1,5 +1,5 @@
 -- The words of a journal: "16 words an edit in lent memory, after a head of 16 words, as many as fit".
-use Rattle.std.specs.Prelude.{List, [], ◌∷◌, ℕ, zero, suc, ◌+◌, ◌-◌, ◌*◌, ◌/◌, min, get_or, length}
+use Rattle.std.specs.Prelude.{List, [], ◌∷◌, ℕ, zero, suc, ◌+◌, ◌-◌, ◌*◌, ◌/◌, min}
 use Rattle.numbers.specs.declared.Caps.{Caps}
 use Rattle.map.specs.History.{Edit, Insert, Remove}
 use Rattle.journal_store.specs.Days.{Dated}

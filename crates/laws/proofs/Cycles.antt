@@ -1,18 +1,16 @@
 -- Siblings: one cycle through the whole set, and a bijection of the live half-facets; border means alone.
 use mathlib.Core.Path.{◌≡◌, refl, sym, ap, ◌∙◌}
-use mathlib.Core.Bool.{Bool, true, false, ◌&&◌}
-use mathlib.Core.List.{List, []}
-use Prim.Native.Nat.{ℕ, zero, suc, ◌+◌, ◌-◌, ◌*◌, ◌<◌, ◌≤◌}
-use native.Mathlib.Nat.{not-suc-le-zero}
+use mathlib.Core.Bool.{Bool, true, ◌&&◌}
+use mathlib.Core.List.{List}
+use Prim.Native.Nat.{ℕ, zero, suc, ◌-◌, ◌*◌, ◌<◌}
 use native.Mathlib.Omega.{arith}
 use borrow.Author.Tests.{eq-eqb, eqb-true}
-use lib.Dec.{eqb}
 use lib.ListN.{length, get_or}
-use Rattle.lists.specs.Lists.{has, same_set, select, after, from, steps}
+use Rattle.lists.specs.Lists.{has, same_set, after, steps}
 use Rattle.lists.specs.Ascending.{Ascending}
 use Rattle.lists.proofs.Bools.{and_left, and_right, and_both}
-use Rattle.lists.proofs.Members.{has_at, at_has}
-use Rattle.lists.proofs.Sets.{same_refl, same_sym, same_trans, same_test_of}
+use Rattle.lists.proofs.Members.{has_at}
+use Rattle.lists.proofs.Sets.{same_refl, same_test_of}
 use Rattle.lists.proofs.Select.{select_in, select_out, select_same}
 use Rattle.lists.proofs.Order.{select_ascends}
 use Rattle.lists.proofs.Cyclic.{steps_from, steps_back, steps_first, from_size, has_from, after_has, alone_after, after_alone}

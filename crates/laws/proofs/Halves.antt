@@ -1,14 +1,13 @@
 -- The half-facets of a sound map lie below the capacity.
-use mathlib.Core.Path.{◌≡◌, refl, sym, ap, ◌∙◌}
-use mathlib.Core.Bool.{Bool, true, false}
-use mathlib.Core.List.{List, [], map}
+use mathlib.Core.Path.{◌≡◌, ap}
+use mathlib.Core.Bool.{true}
+use mathlib.Core.List.{[], map}
 use Prim.Native.Nat.{ℕ, ◌*◌, ◌/◌, ◌%◌, ◌<◌}
 use native.Mathlib.Decide.{dec_lt}
 use native.Mathlib.Omega.{arith}
 use borrow.Author.Tests.{ltb-true}
-use lib.Dec.{ltb}
 use lib.ListN.{get_or, length}
-use Rattle.lists.proofs.Bools.{clash, not_true_false}
+use Rattle.lists.proofs.Bools.{not_true_false}
 use Rattle.shapes.specs.Shapes.{no_shape, shapes, shape}
 use Rattle.map.specs.Cells.{Body, Map, no_cell, live, facets_at}
 use Rattle.map.specs.Siblings.{is_half, Half}

@@ -10,7 +10,7 @@ use lib.Dec.{eqb}
 use lib.ListN.{length, get_or, take, drop, length-append, length-drop, length-reverse, take-append-drop, get_or-append}
 use lib.Seq.{length-take-le, take_at, drop_at, get_or_at, get_or-append-add, get_or-drop, get_or-take}
 use Rattle.lists.specs.Lists.{any, same, same_set, repeats, list_of, steps}
-use Rattle.lists.proofs.Bools.{clash, either, not_true_false, and_left, and_right, and_both, same_test}
+use Rattle.lists.proofs.Bools.{clash, not_true_false, and_left, and_right, same_test}
 use Rattle.lists.proofs.Members.{any_at, at_any, once}
 use Rattle.lists.proofs.Counts.{eqb_swap}
 use Rattle.lists.proofs.Fill.{length_list_of}

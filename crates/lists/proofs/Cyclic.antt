@@ -1,20 +1,20 @@
 -- An ascending list as a cycle: stepping to the next goes once through the whole list and returns.
 use mathlib.Core.Path.{◌≡◌, refl, sym, ap, ◌∙◌}
-use mathlib.Core.Bool.{Bool, true, false, cond, ◌||◌}
-use mathlib.Core.List.{List, [], ◌∷◌, ◌++◌, append-nil}
-use mathlib.Core.Logic.{⊎_elim, ◌⊎◌, inl, inr}
-use Prim.Native.Nat.{ℕ, zero, suc, ◌+◌, ◌-◌, ◌<◌, ◌≤◌}
+use mathlib.Core.Bool.{Bool, true, false, ◌||◌}
+use mathlib.Core.List.{List, [], ◌∷◌, ◌++◌}
+use mathlib.Core.Logic.{⊎_elim}
+use Prim.Native.Nat.{ℕ, zero, suc, ◌+◌, ◌-◌, ◌<◌}
 use native.Mathlib.Nat.{not-suc-le-zero, le_of_suc-le-suc}
 use native.Mathlib.Decide.{dec_lt}
 use native.Mathlib.Omega.{arith}
 use borrow.Author.Tests.{le-leb, lt-leb, lt-ltb, le-ltb, eq-eqb}
 use lib.Dec.{leb, ltb, eqb}
-use lib.ListN.{length, get_or, take, drop, length-drop, length-take, get_or-append, get_or-eq_default, length-append, drop_of_length-le}
+use lib.ListN.{length, get_or, take, drop, length-drop, get_or-append, length-append, drop_of_length-le}
 use lib.Seq.{get_or-drop, get_or-take, get_or-append-add, drop-cons, length-take-le}
-use Rattle.lists.specs.Lists.{has, keep, first, after, from, steps, all}
+use Rattle.lists.specs.Lists.{has, keep, first, after, from, steps}
 use Rattle.lists.specs.Ascending.{Ascending}
 use Rattle.lists.proofs.Bools.{or_left, or_right, or_cases, and_right, and_both}
-use Rattle.lists.proofs.Members.{has_at, at_has, has_append, first_at, first_has, keep_has}
+use Rattle.lists.proofs.Members.{has_at, has_append, first_at, first_has, keep_has}
 use Rattle.lists.proofs.Order.{asc_rest, asc_first}
 
 -- all are kept, or none

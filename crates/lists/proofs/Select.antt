@@ -1,20 +1,17 @@
 -- What is selected: ascending, each once, none missing, none extra.
-use mathlib.Core.Path.{◌≡◌, refl, sym, ap, ◌∙◌, fun_ext}
-use mathlib.Core.Bool.{Bool, true, false, cond, not, ◌&&◌, ◌||◌}
-use mathlib.Core.List.{List, [], ◌∷◌, ◌++◌}
-use mathlib.Core.Logic.{⊎_elim, ◌⊎◌, inl, inr}
-use Prim.Native.Nat.{ℕ, zero, suc, ◌+◌, ◌<◌, ◌≤◌}
-use native.Mathlib.Nat.{not-suc-le-zero, le_of_suc-le-suc, eq-or-lt_of_le}
+use mathlib.Core.Path.{◌≡◌, refl, sym, ap, ◌∙◌}
+use mathlib.Core.Bool.{Bool, true, false, cond, ◌||◌}
+use mathlib.Core.List.{[], ◌∷◌, ◌++◌}
+use mathlib.Core.Logic.{◌⊎◌, inl, inr}
+use Prim.Native.Nat.{ℕ, zero, suc, ◌<◌, ◌≤◌}
+use native.Mathlib.Nat.{not-suc-le-zero, eq-or-lt_of_le}
 use native.Mathlib.Decide.{dec_lt}
 use native.Mathlib.Omega.{arith}
-use borrow.Author.Tests.{eq-eqb, ne_eqb, eqb-true, leb-true, ltb-true}
-use lib.Dec.{eqb}
-use lib.ListN.{length, get_or, length-append, get_or-append}
-use lib.Seq.{get_or-append-add}
-use Rattle.lists.specs.Lists.{has, keep, select, first}
-use Rattle.lists.specs.Ascending.{Ascending}
-use Rattle.lists.proofs.Bools.{clash, either, and_left, and_right, and_both, or_left, same_test, not_true_false}
-use Rattle.lists.proofs.Members.{has_append, has_one, has_at, at_has, keep_has, first_has}
+use borrow.Author.Tests.{eq-eqb, ne_eqb}
+use lib.ListN.{length, length-append}
+use Rattle.lists.specs.Lists.{has, select}
+use Rattle.lists.proofs.Bools.{clash}
+use Rattle.lists.proofs.Members.{has_append, has_one}
 
 or_false : (b : Bool) → b || false ≡ b
 or_false true = refl

@@ -1,5 +1,5 @@
 -- The list words of the definitions: which numbers are in a list, equal sets, the numbers that pass a test.
-use Rattle.std.specs.Prelude.{Bool, true, false, cond, not, ◌&&◌, ◌||◌, List, [], ◌∷◌, ◌++◌, ℕ, zero, suc, eqb, leb, ltb}
+use Rattle.std.specs.Prelude.{Bool, true, false, cond, ◌&&◌, ◌||◌, List, [], ◌∷◌, ◌++◌, ℕ, zero, suc, eqb, leb, ltb}
 
 -- one of the list passes
 unfoldable pub any : {A : Type 0} → (A → Bool) → List A → Bool

@@ -1,5 +1,5 @@
 -- What each call answers: the refusal number, 0 for accepted, and the values. Checks stand in the listed order.
-use Rattle.std.specs.Prelude.{Bool, cond, not, ◌&&◌, ◌||◌, List, [], ◌∷◌, ◌++◌, ℕ, ◌+◌, ◌*◌, ◌/◌, ◌%◌, eqb, leb, ltb, length, take}
+use Rattle.std.specs.Prelude.{Bool, cond, not, ◌&&◌, ◌||◌, List, [], ◌∷◌, ◌++◌, ℕ, ◌/◌, ◌%◌, eqb, leb, ltb, length, take}
 use Rattle.lists.specs.Lists.{any, repeats, same_set}
 use Rattle.numbers.specs.Half.{half_of}
 use Rattle.numbers.specs.Room.{room}

@@ -1,5 +1,5 @@
 -- "Twelve cases to prove": a row has the edits that make the mesh, a question, and the outline's answer.
-use Rattle.std.specs.Prelude.{Bool, true, false, not, ◌&&◌, List, [], ◌∷◌, ◌++◌, ℕ, zero, suc, ◌+◌, ◌*◌}
+use Rattle.std.specs.Prelude.{Bool, not, ◌&&◌, List, [], ◌∷◌, ◌++◌, ℕ, zero, suc, ◌+◌, ◌*◌}
 use Rattle.lists.specs.Lists.{all, same, select}
 use Rattle.numbers.specs.Sizes.{most_around, caps_under}
 use Rattle.numbers.specs.Editions.{first_edition, second_edition}

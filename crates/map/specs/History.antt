@@ -1,5 +1,5 @@
 -- The history: "the built cells, with each accepted edit applied in turn".
-use Rattle.std.specs.Prelude.{Bool, true, false, cond, List, [], ◌∷◌, ℕ, zero, suc, eqb, length, take, drop}
+use Rattle.std.specs.Prelude.{true, false, cond, List, [], ◌∷◌, ℕ, zero, suc, eqb, length, take, drop}
 use Rattle.numbers.specs.declared.Caps.{Caps}
 use Rattle.shapes.specs.Shapes.{shape}
 use Rattle.map.specs.Cells.{Body, licensed_body, Map, no_cell, map_of}

@@ -1,5 +1,5 @@
 -- A morning's edits: a list of words with "1 and a build record to insert, 2 and a cell number to remove" for each edit.
-use Rattle.std.specs.Prelude.{Bool, true, false, cond, List, [], ◌∷◌, ℕ, zero, suc, ◌+◌, eqb, take}
+use Rattle.std.specs.Prelude.{true, false, cond, List, [], ◌∷◌, ℕ, zero, suc, ◌+◌, eqb, take}
 use Rattle.shapes.specs.Shapes.{shape}
 use Rattle.map.specs.Answers.{Answer}
 use Rattle.map.specs.Cells.{licensed_body, Map}

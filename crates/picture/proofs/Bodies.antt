@@ -4,16 +4,15 @@ use mathlib.Core.Bool.{Bool, true, false, cond, ◌&&◌}
 use mathlib.Core.List.{List, [], ◌∷◌}
 use mathlib.Core.Logic.{⊎_elim}
 use Prim.Native.Nat.{ℕ, zero, suc, ◌+◌, ◌*◌, ◌<◌, ◌≤◌}
-use native.Mathlib.Decide.{dec_lt, ℕ_discrete}
+use native.Mathlib.Decide.{ℕ_discrete}
 use native.Mathlib.Omega.{arith}
 use borrow.Author.Tests.{eq-eqb, ne_eqb, lt-ltb, le-ltb}
 use lib.Dec.{eqb, leb, ltb}
-use lib.ListN.{get_or, set, length, get_or-eq_default}
-use Rattle.lists.specs.Lists.{has, keep, select, place}
+use lib.ListN.{get_or, length}
+use Rattle.lists.specs.Lists.{has, select, place}
 use Rattle.lists.proofs.Bools.{clash, not_true_false, or_left}
 use Rattle.lists.proofs.Keep.{keep_out}
 use Rattle.lists.proofs.Select.{select_out}
-use Rattle.words.specs.Words.{Only}
 use Rattle.words.proofs.Frame.{only_then, only_none}
 use Rattle.numbers.specs.declared.Caps.{Caps}
 use Rattle.store.specs.Layout.{near_marks, room}
@@ -22,7 +21,7 @@ use Rattle.store.specs.Slots.{Slot, InHead, InMark, InCell, Within, cell_open, r
 use Rattle.store.proofs.Writes.{write_only}
 use Rattle.map.specs.Cells.{Body, licensed_body}
 use Rattle.picture.specs.State.{State, next}
-use Rattle.picture.specs.Picture.{chain_of, ahead, link_to, link, corner, link_word, head_word, mark_word, cell_word, word_of, Pic}
+use Rattle.picture.specs.Picture.{chain_of, ahead, link_to, link, corner, link_word, mark_word, cell_word, word_of, Pic}
 use Rattle.picture.specs.Changes.{with_body}
 use Rattle.picture.specs.Step.{Step}
 use Rattle.picture.specs.Writes.{MayWrite, Fills, Fars}

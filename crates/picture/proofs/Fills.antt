@@ -1,22 +1,21 @@
 -- Words of a list written one after another into fields of a cell.
-use mathlib.Core.Path.{◌≡◌, refl, sym, ap, ◌∙◌}
+use mathlib.Core.Path.{◌≡◌, refl, ap, ◌∙◌}
 use mathlib.Core.Bool.{true}
 use mathlib.Core.List.{List}
 use mathlib.Core.Logic.{⊎_elim}
-use Prim.Native.Nat.{ℕ, suc, ◌+◌, ◌<◌, ◌≤◌}
+use Prim.Native.Nat.{ℕ, ◌+◌, ◌<◌, ◌≤◌}
 use native.Mathlib.Nat.{eq-or-lt_of_le}
-use native.Mathlib.Decide.{ℕ_discrete, dec_lt}
+use native.Mathlib.Decide.{dec_lt}
 use native.Mathlib.Omega.{arith}
-use borrow.Author.Tests.{lt-ltb, le-ltb}
-use lib.ListN.{get_or, set, length, length-set}
-use Rattle.words.specs.Words.{Only}
+use borrow.Author.Tests.{lt-ltb}
+use lib.ListN.{get_or, length}
 use Rattle.words.proofs.Frame.{read_same, read_other, only_none, only_then}
 use Rattle.numbers.specs.declared.Caps.{Caps}
 use Rattle.store.specs.Layout.{near_marks, room}
 use Rattle.store.specs.Fields.{CellField, Code, Licence, Near, Sib, Link, Far, CellRest, CellFits}
-use Rattle.store.specs.Slots.{Slot, InHead, InMark, InCell, address, Within, cell_open, writable, read, written}
+use Rattle.store.specs.Slots.{Slot, InHead, InMark, InCell, address, Within, cell_open, read, written}
 use Rattle.store.proofs.Slots.{slot_below, slot_one}
-use Rattle.store.proofs.Writes.{open_within, cell_inside, cell_outside, write_only}
+use Rattle.store.proofs.Writes.{cell_inside, cell_outside, write_only}
 use Rattle.picture.specs.Writes.{Fills}
 use Rattle.shapes.specs.Sizes.{most_marks}
 

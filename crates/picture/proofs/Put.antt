@@ -1,14 +1,14 @@
 -- One word written, and the state changed in that word alone; and two pictures of one state.
-use mathlib.Core.Path.{◌≡◌, refl, sym, ap, ◌∙◌}
+use mathlib.Core.Path.{◌≡◌, sym, ap, ◌∙◌}
 use mathlib.Core.Bool.{true}
 use mathlib.Core.List.{List}
-use Prim.Native.Nat.{ℕ, ◌+◌, ◌<◌, ◌≤◌}
+use Prim.Native.Nat.{ℕ, ◌<◌}
 use native.Mathlib.Decide.{ℕ_discrete}
 use native.Mathlib.Omega.{arith}
-use lib.ListN.{get_or, set, take, length, length-set, length-take}
+use lib.ListN.{get_or, set, take, length, length-set}
 use lib.Seq.{ext_get_or, get_or-take, length-take-le}
 use Rattle.words.specs.Words.{Only}
-use Rattle.words.proofs.Frame.{read_same, read_other, only_put, only_none, only_then, only_one}
+use Rattle.words.proofs.Frame.{read_same, read_other, only_then, only_one}
 use Rattle.numbers.specs.declared.Caps.{Caps}
 use Rattle.store.specs.Layout.{room}
 use Rattle.store.specs.Slots.{Slot, address, Within, read, writable, written}

@@ -1,8 +1,8 @@
 -- What a record tells on the picture of a state.
-use mathlib.Core.Path.{◌≡◌, refl, sym, ap, ◌∙◌}
-use mathlib.Core.Bool.{Bool, cond}
+use mathlib.Core.Path.{◌≡◌, sym, ap, ◌∙◌}
+use mathlib.Core.Bool.{cond}
 use mathlib.Core.List.{List}
-use Prim.Native.Nat.{ℕ, ◌+◌, ◌*◌, ◌/◌, ◌%◌, ◌<◌, ◌≤◌}
+use Prim.Native.Nat.{ℕ, ◌+◌, ◌/◌, ◌%◌, ◌<◌, ◌≤◌}
 use native.Mathlib.Decide.{dec_lt}
 use native.Mathlib.Omega.{arith}
 use borrow.Author.Tests.{lt-ltb, le-ltb}
@@ -12,11 +12,10 @@ use Rattle.words.specs.Words.{part_of}
 use Rattle.words.proofs.Fits.{part_is}
 use Rattle.numbers.specs.declared.Caps.{Caps}
 use Rattle.store.specs.Layout.{near_marks}
-use Rattle.store.specs.Fields.{Magic, MarkCap, CellCap, Count, Anchor, Code, Licence, Near, Sib, Far, cell_place, head_place}
-use Rattle.store.specs.Slots.{InHead, InMark, InCell, place_at, address, read, code_in, licence_in, corner_in, marks_at, sibling_in, way_in}
+use Rattle.store.specs.Fields.{Count, Anchor, Code, Licence, Near, Sib, Far}
+use Rattle.store.specs.Slots.{InHead, InMark, InCell, read, code_in, licence_in, corner_in, marks_at, sibling_in, way_in}
 use Rattle.map.specs.Ways.{way_at}
 use Rattle.store.proofs.Ways.{packed_sibling, packed_way}
-use Rattle.store.specs.Open.{head_in, caps_in, is_mesh}
 use Rattle.store.proofs.Marks.{corner_near, corner_far, marks_fit, mark_near, mark_far}
 use Rattle.picture.specs.State.{State}
 use Rattle.picture.specs.Picture.{Pic, corner, head_word, mark_word, sib_word, cell_word, word_of}

@@ -1,15 +1,13 @@
 -- The state of a map is settled, and its map is that map.
-use mathlib.Core.Path.{◌≡◌, refl, sym, ap, ◌∙◌, subst}
-use mathlib.Core.Bool.{Bool, true, cond}
+use mathlib.Core.Path.{◌≡◌, refl, subst}
 use mathlib.Core.List.{List}
 use Prim.Native.Nat.{ℕ}
 use Rattle.numbers.specs.declared.Caps.{Caps}
 use Rattle.map.specs.Cells.{Map, holds}
-use Rattle.map.specs.Siblings.{is_half, sibling}
 use Rattle.map.specs.Sound.{Sound}
-use Rattle.picture.specs.State.{State, map_with, state_of}
+use Rattle.picture.specs.State.{map_with, state_of}
 use Rattle.picture.specs.Picture.{Pic, Wf}
-use Rattle.picture.specs.Ready.{Ready, Settled}
+use Rattle.picture.specs.Ready.{Settled}
 
 pub map_of : (m : Map) → map_with m.caps (state_of m) ≡ m
 unfolding map_with state_of

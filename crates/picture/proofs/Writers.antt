@@ -12,7 +12,6 @@ use Rattle.store.specs.Fields.{Count, Anchor, Sib}
 use Rattle.store.specs.Slots.{Slot, InHead, InMark, InCell, head_open, mark_open, cell_open, writable, written, Within, packed}
 use Rattle.store.proofs.Ways.{packed_whole}
 use Rattle.map.specs.declared.Way.{Way}
-use Rattle.map.specs.Ways.{way_number}
 use Rattle.picture.specs.State.{State}
 use Rattle.picture.specs.Picture.{head_word, mark_word, sib_word, cell_word, word_of}
 use Rattle.picture.specs.Changes.{with_sib, with_anc, with_count}

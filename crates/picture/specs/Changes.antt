@@ -1,5 +1,5 @@
 -- The steps of an edit, each a change of the state in one place.
-use Rattle.std.specs.Prelude.{Bool, cond, not, ◌&&◌, ◌||◌, ℕ, eqb}
+use Rattle.std.specs.Prelude.{Bool, cond, ◌&&◌, ℕ, eqb}
 use Rattle.map.specs.declared.Way.{Way}
 use Rattle.map.specs.Cells.{Body}
 use Rattle.picture.specs.State.{State}

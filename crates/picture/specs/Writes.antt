@@ -3,7 +3,7 @@ use Rattle.std.specs.Prelude.{◌≡◌, Bool, true, false, List, [], ◌⊎◌,
 use Rattle.words.specs.Words.{Only}
 use Rattle.numbers.specs.declared.Caps.{Caps}
 use Rattle.store.specs.Layout.{near_marks, room}
-use Rattle.store.specs.Fields.{CellField, Near, Far}
+use Rattle.store.specs.Fields.{CellField, Far}
 use Rattle.store.specs.Slots.{Slot, InCell, Within, read}
 use Rattle.picture.specs.State.{State}
 use Rattle.shapes.specs.Sizes.{most_marks}

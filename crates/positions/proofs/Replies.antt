@@ -15,7 +15,7 @@ use Rattle.store.specs.declared.Opened.TheVariants.{Mesh}
 use Rattle.store.specs.Slots.{code_in, corner_in}
 use Rattle.store.specs.Open.{opened}
 use Rattle.map.specs.Cells.{Map}
-use Rattle.map.specs.Answers.{Check, answer}
+use Rattle.map.specs.Answers.{Check}
 use Rattle.map.specs.Says.{number_of, given, refused, verdict_says}
 use Rattle.map.specs.declared.Refusal.{Refusal}
 use Rattle.map.specs.declared.Refusal.TheVariants.{NotMesh}

@@ -1,15 +1,15 @@
 -- The facts of all facets: one test computed over the whole table, and one law that turns it into the facts of each type.
-use mathlib.Core.Path.{◌≡◌, refl, sym, ap, ◌∙◌}
-use mathlib.Core.Bool.{Bool, true, false, not, ◌&&◌, ◌||◌}
+use mathlib.Core.Path.{◌≡◌, refl}
+use mathlib.Core.Bool.{Bool, true, not, ◌||◌}
 use mathlib.Core.List.{List, [], ◌∷◌}
 use mathlib.Core.Logic.{⊎_elim}
-use Prim.Native.Nat.{ℕ, ◌<◌, ◌≤◌}
+use Prim.Native.Nat.{ℕ, ◌<◌}
 use native.Mathlib.Omega.{arith}
 use borrow.Author.Tests.{leb-true, ltb-true, eqb-true, not-true}
 use lib.Dec.{leb, ltb, eqb}
 use lib.ListN.{get_or, length}
 use Rattle.lists.specs.Lists.{has, any, all, repeats, same_set}
-use Rattle.lists.proofs.Bools.{clash, and_left, and_right, or_cases}
+use Rattle.lists.proofs.Bools.{clash, or_cases}
 use Rattle.lists.proofs.Members.{all_at, all_get}
 use Rattle.lists.proofs.Below.{all_below, below_at}
 use Rattle.shapes.specs.Shapes.{Shape, no_shape, shapes, shape}

@@ -1,17 +1,16 @@
 -- The padded table holds the facets: the count in column 0, the places behind it.
 use mathlib.Core.Path.{◌≡◌, refl, sym, ap, ◌∙◌}
-use mathlib.Core.Bool.{Bool, true, false, ◌&&◌}
-use mathlib.Core.List.{List, [], ◌∷◌}
+use mathlib.Core.Bool.{Bool, true}
+use mathlib.Core.List.{[], ◌∷◌}
 use Prim.Native.Nat.{ℕ, suc, ◌+◌, ◌<◌, ◌≤◌}
 use native.Mathlib.Decide.{dec_lt}
 use native.Mathlib.Omega.{arith}
 use borrow.Author.Tests.{eqb-true}
-use lib.Dec.{eqb, ltb}
-use lib.ListN.{get_or, length, replicate, get_or-eq_default}
+use lib.Dec.{eqb}
+use lib.ListN.{get_or, length, get_or-eq_default}
 use Rattle.lists.proofs.Below.{all_below, below_at}
 use Rattle.shapes.specs.Shapes.{Shape, no_shape, shapes, shape, places}
 use Rattle.shapes.specs.Table.{padded, facet_row, type_row, table, entry}
-use Rattle.shapes.specs.Facts.{facet_at}
 use Rattle.shapes.proofs.Facts.{facts}
 use Rattle.shapes.proofs.Read.{no_code, entry_type, entry_facet}
 use Rattle.shapes.specs.Sizes.{most_facets, most_corners, columns, codes}

@@ -1,13 +1,11 @@
 -- What the tables of the code hold is what specs/Shapes.antt says of a type.
-use mathlib.Core.Path.{◌≡◌, refl, sym, ap, ◌∙◌}
-use mathlib.Core.Bool.{Bool, true, false, cond, ◌&&◌}
-use mathlib.Core.List.{List, [], ◌∷◌, map}
+use mathlib.Core.Path.{◌≡◌, sym, ap}
+use mathlib.Core.List.{List, [], map}
 use Prim.Native.Nat.{ℕ, zero, suc, ◌<◌, ◌≤◌}
 use native.Mathlib.Decide.{ℕ_discrete}
 use native.Mathlib.Omega.{arith}
 use borrow.Author.Tests.{lt-ltb, le-ltb}
-use lib.Dec.{ltb}
-use lib.ListN.{get_or, length, get_or-map, get_or-eq_default}
+use lib.ListN.{get_or, get_or-map, get_or-eq_default}
 use Rattle.shapes.specs.Shapes.{Shape, no_shape, shapes, shape}
 use Rattle.shapes.specs.Table.{entry}
 use Rattle.shapes.specs.Sizes.{most_facets, columns, codes, most_code}

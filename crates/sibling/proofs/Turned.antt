@@ -6,7 +6,7 @@ use Prim.Native.Nat.{ℕ, ◌+◌, ◌-◌, ◌/◌, ◌%◌, ◌<◌, ◌≤◌
 use native.Mathlib.Decide.{dec_lt}
 use native.Mathlib.Omega.{arith}
 use borrow.Author.Tests.{lt-ltb, le-ltb, eq-eqb, ne_eqb, eqb-true}
-use lib.Dec.{eqb, ltb}
+use lib.Dec.{eqb}
 use lib.ListN.{length, get_or, take, drop, length-append, length-drop, length-reverse, get_or-append, drop_of_length-le}
 use lib.Seq.{ext_get_or, length-take-le, take_all, get_or-append-add, get_or-drop, get_or-take}
 use Rattle.lists.specs.Lists.{any, same, every, list_of}
@@ -15,7 +15,7 @@ use Rattle.lists.proofs.Every.{every_at, at_every, every_start, every_more, ever
 use Rattle.lists.proofs.Through.{none_start, none_more, one_there, none_all}
 use Rattle.numbers.specs.declared.Caps.{Caps}
 use Rattle.shapes.specs.Table.{entry}
-use Rattle.facet.specs.Facet.{set_mark, set_in, marks_in, facet_in}
+use Rattle.facet.specs.Facet.{set_mark, set_in, marks_in}
 use Rattle.store.specs.Slots.{code_in}
 use Rattle.map.specs.declared.Way.{Way}
 use Rattle.map.specs.declared.Way.TheVariants.{Lone, Same, Opposite, Neither}

@@ -1,8 +1,7 @@
 -- The half-facets with one set of marks, cell by cell along a list of cells.
-use Rattle.std.specs.Prelude.{List, [], map, ℕ, ◌%◌, ltb, get_or, length}
-use Rattle.lists.specs.Lists.{same_set, select, first, keep}
+use Rattle.std.specs.Prelude.{List, map, ℕ, ◌%◌, ltb}
+use Rattle.lists.specs.Lists.{keep}
 use Rattle.numbers.specs.Half.{cut, half_of}
-use Rattle.map.specs.Cells.{Map, facets_at}
 use Rattle.shapes.specs.Sizes.{no_facet}
 
 -- for each cell in order its half-facet by the match; none where there is no match

@@ -1,5 +1,5 @@
 -- The half-facets with one set of marks, found along the chain of one of its marks; and their siblings mended.
-use Rattle.std.specs.Prelude.{◌≡◌, Bool, cond, List, [], ℕ, ◌<◌, ◌≤◌, get_or, length}
+use Rattle.std.specs.Prelude.{◌≡◌, cond, List, ℕ, ◌<◌, ◌≤◌, get_or, length}
 use Rattle.lists.specs.Lists.{has, after}
 use Rattle.lists.specs.Filled.{Copied}
 use Rattle.shapes.specs.Table.{table}

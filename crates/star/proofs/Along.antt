@@ -1,32 +1,30 @@
 -- The cells of one dimension along a list, one by one; and along a chain, the star.
-use mathlib.Core.Path.{◌≡◌, refl, sym, ap, ◌∙◌}
-use mathlib.Core.Bool.{Bool, true, false, ◌&&◌}
-use mathlib.Core.List.{List, [], ◌∷◌, ◌++◌}
-use Prim.Native.Nat.{ℕ, suc, ◌+◌, ◌<◌, ◌≤◌}
+use mathlib.Core.Path.{◌≡◌, refl, ap, ◌∙◌}
+use mathlib.Core.Bool.{Bool, true, false}
+use mathlib.Core.List.{List}
+use Prim.Native.Nat.{ℕ, ◌+◌, ◌<◌, ◌≤◌}
 use native.Mathlib.Numerals.{add-one}
 use native.Mathlib.Omega.{arith}
 use borrow.Author.Tests.{eq-eqb, ne_eqb}
 use lib.Dec.{eqb}
 use lib.ListN.{length, get_or, set, take, drop}
 use lib.Seq.{take-append_seam}
-use Rattle.lists.specs.Lists.{has, keep, select, list_of}
-use Rattle.lists.specs.Filled.{Filled, Copied}
+use Rattle.lists.specs.Lists.{has, keep, list_of}
+use Rattle.lists.specs.Filled.{Copied}
 use Rattle.lists.proofs.Fill.{fill_start, copy_more, list_of_take, length_list_of}
 use Rattle.lists.proofs.Keep.{keep_yes, keep_no, keep_size}
 use Rattle.lists.proofs.Alike.{keep_same}
 use Rattle.lists.proofs.Order.{keep_select}
-use Rattle.lists.proofs.Select.{select_out, select_same}
+use Rattle.lists.proofs.Select.{select_out}
 use Rattle.shapes.specs.Shapes.{shape}
 use Rattle.numbers.specs.declared.Caps.{Caps}
 use Rattle.store.specs.Slots.{code_in}
 use Rattle.map.specs.Cells.{Map, holds, dimension_at}
 use Rattle.map.specs.Stars.{holders, star}
-use Rattle.map.specs.Sound.{Sound}
 use Rattle.picture.specs.State.{State, map_with}
 use Rattle.picture.specs.Picture.{Pic, chain_of}
-use Rattle.picture.specs.Ready.{Ready}
 use Rattle.picture.proofs.Record.{code_read}
-use Rattle.chain.specs.Chain.{Linked, Gathered}
+use Rattle.chain.specs.Chain.{Gathered}
 use Rattle.chain.proofs.Readied.{chain_holders, ready_linked}
 use Rattle.star.specs.Along.{kept}
 use Rattle.star.specs.Listed.{Gives, AtMark}

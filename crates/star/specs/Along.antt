@@ -1,5 +1,5 @@
 -- The cells of one dimension along a list.
-use Rattle.std.specs.Prelude.{List, ℕ, ◌+◌, eqb, get_or}
+use Rattle.std.specs.Prelude.{List, ℕ, eqb, get_or}
 use Rattle.lists.specs.Lists.{keep, list_of}
 use Rattle.shapes.specs.Shapes.{shape}
 use Rattle.numbers.specs.declared.Caps.{Caps}

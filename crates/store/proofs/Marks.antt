@@ -1,12 +1,10 @@
 -- The marks of a cell by the part of its record that they stand in.
-use mathlib.Core.Path.{◌≡◌, refl, ap, ◌∙◌}
-use mathlib.Core.Bool.{cond}
+use mathlib.Core.Path.{◌≡◌, ap}
 use mathlib.Core.List.{List}
 use Prim.Native.Nat.{ℕ, ◌+◌, ◌<◌, ◌≤◌}
 use native.Mathlib.Decide.{dec_lt}
 use native.Mathlib.Omega.{arith}
 use borrow.Author.Tests.{lt-ltb, le-ltb, lt-leb, le-leb}
-use lib.Dec.{ltb, leb}
 use lib.ListN.{get_or}
 use Rattle.numbers.specs.declared.Caps.{Caps}
 use Rattle.shapes.specs.Sizes.{most_marks}

@@ -1,11 +1,10 @@
 -- What a head opens.
-use mathlib.Core.Path.{◌≡◌, refl, sym, ap, ◌∙◌}
-use mathlib.Core.Bool.{Bool, true, false, cond, ◌&&◌}
+use mathlib.Core.Path.{◌≡◌}
+use mathlib.Core.Bool.{true, false}
 use mathlib.Core.List.{List}
-use Prim.Native.Nat.{ℕ, ◌+◌, ◌*◌, ◌<◌, ◌≤◌}
+use Prim.Native.Nat.{ℕ, ◌<◌, ◌≤◌}
 use borrow.Author.Tests.{le-leb, lt-leb, eq-eqb, ne_eqb}
-use lib.Dec.{leb, eqb}
-use lib.ListN.{get_or, length}
+use lib.ListN.{length}
 use Rattle.numbers.specs.Sizes.{most_capacity}
 use Rattle.numbers.specs.Editions.{is_edition}
 use Rattle.store.specs.declared.Opened.TheVariants.{Mesh, Nothing}

@@ -3,18 +3,18 @@ use mathlib.Core.Path.{◌≡◌, refl, sym, ap, ◌∙◌, subst}
 use mathlib.Core.Bool.{Bool, true, false, cond, ◌&&◌}
 use mathlib.Core.List.{List}
 use mathlib.Core.Logic.{◌⊎◌, ⊎_elim}
-use Prim.Native.Nat.{ℕ, ◌+◌, ◌*◌, ◌<◌, ◌≤◌}
+use Prim.Native.Nat.{ℕ, ◌+◌, ◌<◌, ◌≤◌}
 use native.Mathlib.Omega.{arith}
 use borrow.Author.Tests.{lt-ltb, le-ltb, le-leb, lt-leb, ltb-true, leb-true}
 use lib.Dec.{leb, ltb}
-use lib.ListN.{get_or, set, length}
+use lib.ListN.{get_or, set}
 use Rattle.numbers.specs.declared.Caps.{Caps}
 use denote.Ref.{Bor}
 use Rattle.words.specs.Words.{Only, Part}
 use Rattle.words.proofs.Frame.{only_none, only_put}
 use Rattle.store.specs.Layout.{near_marks, room, mark_at, near_at, far_at}
 use Rattle.store.specs.Fields.{HeadField, Magic, MarkCap, CellCap, Edition, Count, HeadRest, MarkField, First, Held, Anchor, MarkRest, CellField, Code, Licence, Near, Sib, Link, Far, CellRest, head_place, mark_place, cell_place, HeadFits, MarkFits, CellFits}
-use Rattle.store.specs.Slots.{Slot, InHead, InMark, InCell, place_at, address, Within, head_open, mark_open, cell_open, writable, read, written, corner_in, marks_at}
+use Rattle.store.specs.Slots.{Slot, InHead, InMark, InCell, place_at, address, Within, head_open, mark_open, cell_open, writable, read, written}
 use Rattle.store.proofs.Slots.{slot_below}
 use Rattle.shapes.specs.Sizes.{most_code, most_facets, most_marks}
 

@@ -1,6 +1,5 @@
 -- `ask::free` meets its contract.
 use mathlib.Core.Path.{refl, sym, ◌∙◌}
-use Prim.Native.Nat.{◌-◌}
 use native.Mathlib.Omega.{arith}
 use Rattle.ask.proofs.Asks.{mesh_none}
 use Rattle.ask.proofs.Frees.{free_start, free_more, free_found, free_none}

@@ -1,5 +1,4 @@
 -- `border::cell_out` meets its contract.
-use Prim.Native.Nat.{◌-◌}
 use native.Mathlib.Omega.{arith}
 use Rattle.border.proofs.Corners.{from_start, from_more}
 use Rattle.border.proofs.Walked.{cell_out_not, cell_out_blank, cell_out_found}

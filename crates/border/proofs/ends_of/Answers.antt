@@ -2,7 +2,6 @@
 use mathlib.Core.Path.{◌∙◌}
 use Prim.Native.Nat.{◌-◌}
 use native.Mathlib.Omega.{arith}
-use Rattle.picture.specs.Picture.{link}
 use Rattle.chain.proofs.Places.{head_word_lem}
 use Rattle.border.proofs.Ending.{ending_start, ending_end, ending_full, ending_more, ending_border}
 use Rattle.border.proofs.ends_of.Goals as goal

@@ -1,5 +1,4 @@
 -- `border::other` meets its contract.
-use Prim.Native.Nat.{◌-◌}
 use native.Mathlib.Omega.{arith}
 use Rattle.border.proofs.Corners.{from_start, from_more}
 use Rattle.border.proofs.Walked.{other_start, other_more}

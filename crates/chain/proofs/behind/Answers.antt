@@ -1,5 +1,4 @@
 -- `chain::behind` meets its contract.
-use Prim.Native.Nat.{◌-◌}
 use native.Mathlib.Omega.{arith}
 use Rattle.chain.proofs.Inner.{inner_none, inner_behind}
 use Rattle.chain.proofs.behind.Goals as goal

@@ -1,6 +1,5 @@
 -- `chain::find` meets its contract.
 use mathlib.Core.Path.{◌∙◌}
-use Prim.Native.Nat.{◌-◌}
 use native.Mathlib.Omega.{arith}
 use Rattle.chain.proofs.Walks.{searching_start, searching_step, searching_end, searching_past, searching_full}
 use Rattle.chain.proofs.Places.{head_word_lem}

@@ -1,6 +1,5 @@
 -- `chain::gather` meets its contract.
 use mathlib.Core.Path.{◌∙◌, refl}
-use Prim.Native.Nat.{◌-◌}
 use native.Mathlib.Omega.{arith}
 use Rattle.picture.specs.Picture.{chain_of}
 use Rattle.chain.proofs.Walks.{walking_start, walking_step, walking_end, walking_full}

@@ -1,7 +1,5 @@
 -- `chain::leads_out` meets its contract.
 use mathlib.Core.Path.{refl}
-use mathlib.Core.Bool.{true}
-use Prim.Native.Nat.{◌-◌}
 use native.Mathlib.Omega.{arith}
 use Rattle.lists.proofs.Bools.{clash}
 use Rattle.chain.proofs.leads_out.Goals as goal

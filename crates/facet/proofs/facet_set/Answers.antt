@@ -1,5 +1,4 @@
 -- `facet::facet_set` meets its contract.
-use Prim.Native.Nat.{◌-◌}
 use native.Mathlib.Omega.{arith}
 use Rattle.lists.proofs.Mapped.{list_start, list_more}
 use Rattle.facet.proofs.Copy.{set_here, set_copied}

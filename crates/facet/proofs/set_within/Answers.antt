@@ -1,10 +1,8 @@
 -- `facet::set_within` meets its contract.
-use Prim.Native.Nat.{◌-◌}
 use native.Mathlib.Nat.{not-suc-le-zero}
 use native.Mathlib.Omega.{arith}
 use borrow.Author.Count.{below_more}
 use borrow.Author.Tests.{not-true, not-false}
-use Rattle.lists.specs.Lists.{has}
 use Rattle.facet.proofs.Copy.{set_here}
 use Rattle.facet.proofs.Held.{within_stop, within_more, within_end}
 use Rattle.facet.proofs.set_within.Goals as goal

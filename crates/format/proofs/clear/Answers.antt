@@ -1,5 +1,4 @@
 -- `format::clear` meets its contract.
-use Prim.Native.Nat.{◌-◌}
 use native.Mathlib.Omega.{arith}
 use Rattle.format.proofs.Clears.{clear_start, clear_more, clear_end}
 use Rattle.format.proofs.clear.Goals as goal

@@ -1,6 +1,5 @@
 -- `frames::add_halves` meets its contract.
 use mathlib.Core.Path.{refl}
-use Prim.Native.Nat.{◌-◌}
 use native.Mathlib.Omega.{arith}
 use Rattle.frames.specs.Frames.{cell_and_facet}
 use Rattle.frames.proofs.Append.{append_length}

@@ -1,5 +1,4 @@
 -- `journal_store::copy_words` meets its contract.
-use Prim.Native.Nat.{◌-◌}
 use native.Mathlib.Omega.{arith}
 use Rattle.journal_store.proofs.Copying.{copied_start, copied_more, copied_all, copied_short}
 use Rattle.journal_store.proofs.copy_words.Goals as goal

@@ -1,5 +1,4 @@
 -- `journal_store::count_up_to` meets its contract.
-use Prim.Native.Nat.{◌-◌}
 use native.Mathlib.Omega.{arith}
 use Rattle.journal_store.proofs.Reading.{counted_more}
 use Rattle.journal_store.proofs.count_up_to.Goals as goal

@@ -1,5 +1,4 @@
 -- `journal_store::move_entries` meets its contract.
-use Prim.Native.Nat.{◌-◌}
 use native.Mathlib.Omega.{arith}
 use Rattle.journal_store.proofs.Copying.{moving_start, moving_end, moving_more}
 use Rattle.journal_store.proofs.move_entries.Goals as goal

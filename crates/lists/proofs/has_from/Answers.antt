@@ -1,7 +1,6 @@
 -- `lists::has_from` meets its contract.
 use native.Mathlib.Omega.{arith}
 use mathlib.Core.Path.{refl}
-use Prim.Native.Nat.{◌-◌}
 use Rattle.lists.proofs.Scan.{has_stop, has_go, has_end}
 use Rattle.lists.proofs.has_from.Goals as goal
 

@@ -1,6 +1,5 @@
 -- `lists::repeats` meets its contract.
 use mathlib.Core.Path.{refl, sym, ◌∙◌}
-use Prim.Native.Nat.{◌-◌}
 use native.Mathlib.Omega.{arith}
 use Rattle.lists.proofs.Scan.{repeats_stop, repeats_go, repeats_end}
 use borrow.Author.Rules.{rules}

@@ -1,7 +1,6 @@
 -- `lists::subset` meets its contract.
 use borrow.Author.Tests.{not-true, not-false}
 use mathlib.Core.Path.{refl, sym, ◌∙◌}
-use Prim.Native.Nat.{◌-◌}
 use native.Mathlib.Omega.{arith}
 use Rattle.lists.proofs.Scan.{all_stop, all_go, all_end}
 use borrow.Author.Rules.{rules}

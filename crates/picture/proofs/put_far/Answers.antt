@@ -1,6 +1,5 @@
 -- `picture::put_far` meets its contract.
 use mathlib.Core.Path.{◌≡◌}
-use Prim.Native.Nat.{◌-◌}
 use native.Mathlib.Omega.{arith}
 use borrow.Author.Tests.{not-true, not-false}
 use Rattle.picture.proofs.Fills.{fills_start, far_more}

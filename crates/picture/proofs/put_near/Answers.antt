@@ -1,6 +1,5 @@
 -- `picture::put_near` meets its contract.
 use mathlib.Core.Path.{◌≡◌}
-use Prim.Native.Nat.{◌-◌}
 use native.Mathlib.Omega.{arith}
 use Rattle.picture.proofs.Fills.{fills_start, near_more}
 use Rattle.store.specs.Layout.{near_marks}

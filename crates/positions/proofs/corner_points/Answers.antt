@@ -1,5 +1,4 @@
 -- `positions::corner_points` meets its contract.
-use Prim.Native.Nat.{◌-◌}
 use native.Mathlib.Omega.{arith}
 use mathlib.Core.Logic.{inl, inr}
 use Rattle.positions.proofs.Written.{point_none, point_more, point_all, put_or_not, origins_eight}

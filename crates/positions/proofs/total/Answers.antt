@@ -1,5 +1,4 @@
 -- `positions::total` meets its contract.
-use Prim.Native.Nat.{◌-◌}
 use native.Mathlib.Omega.{arith}
 use Rattle.metres.proofs.Sums.{held_none, held_more, held_all}
 use Rattle.positions.proofs.Measures.{read_there}

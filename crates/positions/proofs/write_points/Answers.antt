@@ -1,5 +1,4 @@
 -- `positions::write_points` meets its contract.
-use Prim.Native.Nat.{◌-◌}
 use native.Mathlib.Omega.{arith}
 use Rattle.positions.proofs.Written.{wrote_none, wrote_point, wrote_all}
 use Rattle.positions.proofs.write_points.Goals as goal

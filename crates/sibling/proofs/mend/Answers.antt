@@ -1,7 +1,6 @@
 -- `sibling::mend` meets its contract.
 use mathlib.Core.Path.{refl}
 use mathlib.Core.Logic.{inl, inr}
-use Prim.Native.Nat.{◌-◌}
 use native.Mathlib.Omega.{arith}
 use Rattle.sibling.proofs.Mended.{mend_start, mend_more, mend_end}
 use Rattle.sibling.proofs.mend.Goals as goal

@@ -1,5 +1,4 @@
 -- `sibling::rotates` meets its contract.
-use Prim.Native.Nat.{◌-◌}
 use native.Mathlib.Omega.{arith}
 use Rattle.sibling.proofs.Turned.{turns_start, turns_more, turns_stop, turns_end}
 use Rattle.sibling.proofs.rotates.Goals as goal

@@ -1,5 +1,4 @@
 -- `sibling::same_turned` meets its contract.
-use Prim.Native.Nat.{◌-◌}
 use native.Mathlib.Omega.{arith}
 use Rattle.sibling.proofs.Turned.{same_sizes, agree_start, agree_more, agree_stop, agree_end}
 use Rattle.sibling.proofs.same_turned.Goals as goal

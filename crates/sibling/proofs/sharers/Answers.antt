@@ -1,6 +1,5 @@
 -- `sibling::sharers` meets its contract.
 use mathlib.Core.Path.{refl, ◌∙◌}
-use Prim.Native.Nat.{◌-◌}
 use native.Mathlib.Omega.{arith}
 use Rattle.chain.proofs.Places.{head_word_lem}
 use Rattle.chain.proofs.Readied.{ready_linked}

@@ -10,12 +10,12 @@ loop-i-init c = (omega arith, omega arith, kept_start _ _ _ _ _)
 pub loop-i-preserved : goal.loop-i-preserved
 loop-i-preserved c =
     elim c.if-dimension-d.branch [
-      then-dimension-d w ↦ (
+      | then-dimension-d w ↦ (
         omega arith,
         omega (arith, w.k-is, c.loop-i.invariant.1),
         rw (w.k-is, w.out-is) (kept_yes _ _ _ _ _ c.loop-i.i _ _ _ _ _ _ c.loop-i.invariant.2 c.word.ensures c.code_of.ensures c.dimension.ensures w.if-dimension-d.true w.put.ensures),
       )
-    | else-dimension-d w ↦ (
+      | else-dimension-d w ↦ (
         omega arith,
         omega (arith, w.k-is, c.loop-i.invariant.1),
         rw (w.k-is, w.out-is) (kept_no _ _ _ _ _ c.loop-i.i _ _ _ _ _ c.loop-i.invariant.2 c.word.ensures c.code_of.ensures c.dimension.ensures w.if-dimension-d.false),
