@@ -11,7 +11,6 @@ use ask::{
 use build::build_edition;
 use edits::{Tally, make_edits, tallied};
 use format::{format, format_edition};
-use libc::STDOUT_FILENO;
 use listing::{anchors, cells_of_type, cycle, live, lookup, neighbours, star};
 use map::{
     Built, CellAt, Edits, Found, HalfAt, Pair, Refusal, Truth, Value, Verdict, Way, number_of,
@@ -19,6 +18,7 @@ use map::{
 };
 use mesh::{insert, insert_licensed, remove};
 use numbers::{Cell, FIRST_EDITION, Half, Mark, SECOND_EDITION, half_of};
+use std::io;
 use whole::whole;
 use words::{part, word};
 
@@ -212,378 +212,387 @@ fn edit_row(k: usize) -> [u32; 14] {
     if k < EDITS { EDITED[k] } else { [0; 14] }
 }
 
-fn say(text: &[u8]) {
-    io::write_all(STDOUT_FILENO, text);
+fn say(rt: &impl Print, text: &str) -> io::Result<()> {
+    rt.print(text)
 }
 
-fn say_number(n: u32) {
-    say(b" ");
-    io::print_decimal(STDOUT_FILENO, n as u64);
+fn say_number(rt: &impl Print, n: u32) -> io::Result<()> {
+    say(rt, " ")?;
+    rt.print(n)
 }
 
-fn say_size(n: usize) {
-    say(b" ");
-    io::print_decimal(STDOUT_FILENO, n as u64);
+fn say_size(rt: &impl Print, n: usize) -> io::Result<()> {
+    say(rt, " ")?;
+    rt.print(n)
 }
 
-fn say_case(p: u32) {
+fn say_case(rt: &impl Print, p: u32) -> io::Result<()> {
     if p <= 12 {
-        say(b"P");
+        say(rt, "P")?;
     } else {
-        say(b"R");
+        say(rt, "R")?;
     }
-    io::print_decimal(STDOUT_FILENO, p as u64);
+    rt.print(p)
 }
 
-fn say_refusal(why: Refusal) {
-    say(b" refused");
-    say_number(number_of(why));
+fn say_refusal(rt: &impl Print, why: Refusal) -> io::Result<()> {
+    say(rt, " refused")?;
+    say_number(rt, number_of(why))
 }
 
 // The first n numbers of a list.
-fn say_numbers(list: &[u32], n: usize) {
+fn say_numbers(rt: &impl Print, list: &[u32], n: usize) -> io::Result<()> {
     if n == 0 {
-        say(b" none");
+        say(rt, " none")?;
     }
     for i in 0..n {
-        say_number(word(list, i));
+        say_number(rt, word(list, i))?;
     }
+    Ok(())
 }
 
-fn say_verdict(v: Verdict) {
+fn say_verdict(rt: &impl Print, v: Verdict) -> io::Result<()> {
     match v {
-        Verdict::Accepted => say(b" accepted"),
-        Verdict::Refused(why) => say_refusal(why),
+        Verdict::Accepted => say(rt, " accepted"),
+        Verdict::Refused(why) => say_refusal(rt, why),
     }
 }
 
-fn say_built(b: Built) {
+fn say_built(rt: &impl Print, b: Built) -> io::Result<()> {
     match b {
-        Built::Accepted => say(b" accepted"),
+        Built::Accepted => say(rt, " accepted"),
         Built::Refused(why, place) => {
-            say_refusal(why);
-            say(b" record");
-            say_number(place);
+            say_refusal(rt, why)?;
+            say(rt, " record")?;
+            say_number(rt, place)
         }
     }
 }
 
-fn say_value(v: Value) {
+fn say_value(rt: &impl Print, v: Value) -> io::Result<()> {
     match v {
-        Value::Is(n) => say_number(n),
-        Value::Refused(why) => say_refusal(why),
+        Value::Is(n) => say_number(rt, n),
+        Value::Refused(why) => say_refusal(rt, why),
     }
 }
 
-fn say_pair(p: Pair) {
+fn say_pair(rt: &impl Print, p: Pair) -> io::Result<()> {
     match p {
         Pair::Are(first, second) => {
-            say_number(first);
-            say_number(second);
+            say_number(rt, first)?;
+            say_number(rt, second)
         }
-        Pair::Refused(why) => say_refusal(why),
+        Pair::Refused(why) => say_refusal(rt, why),
     }
 }
 
-fn say_cell(c: CellAt) {
+fn say_cell(rt: &impl Print, c: CellAt) -> io::Result<()> {
     match c {
-        CellAt::At(cell) => say_number(cell.0),
-        CellAt::Nothing => say(b" none"),
-        CellAt::Refused(why) => say_refusal(why),
+        CellAt::At(cell) => say_number(rt, cell.0),
+        CellAt::Nothing => say(rt, " none"),
+        CellAt::Refused(why) => say_refusal(rt, why),
     }
 }
 
-fn say_list(v: Value, list: &[u32]) {
+fn say_list(rt: &impl Print, v: Value, list: &[u32]) -> io::Result<()> {
     match v {
-        Value::Is(n) => say_numbers(list, n as usize),
-        Value::Refused(why) => say_refusal(why),
+        Value::Is(n) => say_numbers(rt, list, n as usize),
+        Value::Refused(why) => say_refusal(rt, why),
     }
 }
 
-fn say_way(h: Half, way: Way) {
-    say_number(h.0);
-    say(b" way");
-    say_number(way_number(way));
+fn say_way(rt: &impl Print, h: Half, way: Way) -> io::Result<()> {
+    say_number(rt, h.0)?;
+    say(rt, " way")?;
+    say_number(rt, way_number(way))
 }
 
-fn say_half(h: HalfAt) {
+fn say_half(rt: &impl Print, h: HalfAt) -> io::Result<()> {
     match h {
-        HalfAt::At(x, way) => say_way(x, way),
-        HalfAt::Refused(why) => say_refusal(why),
+        HalfAt::At(x, way) => say_way(rt, x, way),
+        HalfAt::Refused(why) => say_refusal(rt, why),
     }
 }
 
 // A cycle, and the ways beside it.
-fn say_cycle(v: Value, list: &[u32], ways: &[u32]) {
+fn say_cycle(rt: &impl Print, v: Value, list: &[u32], ways: &[u32]) -> io::Result<()> {
     match v {
         Value::Is(n) => {
-            say_numbers(list, n as usize);
-            say(b", ways");
-            say_numbers(ways, n as usize);
+            say_numbers(rt, list, n as usize)?;
+            say(rt, ", ways")?;
+            say_numbers(rt, ways, n as usize)
         }
-        Value::Refused(why) => say_refusal(why),
+        Value::Refused(why) => say_refusal(rt, why),
     }
 }
 
-fn say_found(f: Found) {
+fn say_found(rt: &impl Print, f: Found) -> io::Result<()> {
     if let Found::Refused(why) = f {
-        say_refusal(why);
-        return;
+        return say_refusal(rt, why);
     }
     let Found::At(h) = f else {
-        say(b" none");
-        return;
+        return say(rt, " none");
     };
-    say_number(h.0);
+    say_number(rt, h.0)
 }
 
-fn say_truth(t: Truth) {
+fn say_truth(rt: &impl Print, t: Truth) -> io::Result<()> {
     match t {
-        Truth::Yes => say(b" yes"),
-        Truth::No => say(b" no"),
-        Truth::Refused(why) => say_refusal(why),
+        Truth::Yes => say(rt, " yes"),
+        Truth::No => say(rt, " no"),
+        Truth::Refused(why) => say_refusal(rt, why),
     }
 }
 
-fn say_step(s: Step) {
+fn say_step(rt: &impl Print, s: Step) -> io::Result<()> {
     match s {
-        Step::Next(at, way) => say_way(at.0, way),
-        Step::Refused(why) => say_refusal(why),
+        Step::Next(at, way) => say_way(rt, at.0, way),
+        Step::Refused(why) => say_refusal(rt, why),
     }
 }
 
-fn about_cell(w: &[u32], p: u32, c: Cell) {
-    say_case(p);
-    say(b" cell");
-    say_number(c.0);
-    say(b": type");
-    say_value(type_of(w, c));
-    say(b", licence");
-    say_value(ask::licence(w, c));
-    say(b", marks");
+fn about_cell(rt: &impl Print, w: &[u32], p: u32, c: Cell) -> io::Result<()> {
+    say_case(rt, p)?;
+    say(rt, " cell")?;
+    say_number(rt, c.0)?;
+    say(rt, ": type")?;
+    say_value(rt, type_of(w, c))?;
+    say(rt, ", licence")?;
+    say_value(rt, ask::licence(w, c))?;
+    say(rt, ", marks")?;
     let marks = marks_of(w, c);
-    say_numbers(marks, marks.len());
-    say(b", neighbours");
+    say_numbers(rt, marks, marks.len())?;
+    say(rt, ", neighbours")?;
     let mut out = [0u32; 128];
     let n = neighbours(w, c, &mut out);
-    say_list(n, &out);
-    say(b"\n");
+    say_list(rt, n, &out)?;
+    say(rt, "\n")
 }
 
-fn about_half(w: &[u32], p: u32, c: Cell, f: u32) {
-    say_case(p);
-    say(b" half");
-    say_number(c.0);
-    say_number(f);
-    say(b": sibling");
-    say_half(sibling(w, c, f));
-    say(b", border");
-    say_truth(border(w, c, f));
-    say(b", cycle");
+fn about_half(rt: &impl Print, w: &[u32], p: u32, c: Cell, f: u32) -> io::Result<()> {
+    say_case(rt, p)?;
+    say(rt, " half")?;
+    say_number(rt, c.0)?;
+    say_number(rt, f)?;
+    say(rt, ": sibling")?;
+    say_half(rt, sibling(w, c, f))?;
+    say(rt, ", border")?;
+    say_truth(rt, border(w, c, f))?;
+    say(rt, ", cycle")?;
     let mut out = [0u32; 128];
     let mut ways = [0u32; 128];
     let n = cycle(w, c, f, &mut out, &mut ways);
-    say_cycle(n, &out, &ways);
-    say(b", step");
-    say_step(Walker(half_of(c, f)).step(w));
-    say(b"\n");
+    say_cycle(rt, n, &out, &ways)?;
+    say(rt, ", step")?;
+    say_step(rt, Walker(half_of(c, f)).step(w))?;
+    say(rt, "\n")
 }
 
-fn about_halves(w: &[u32], p: u32, c: Cell) {
+fn about_halves(rt: &impl Print, w: &[u32], p: u32, c: Cell) -> io::Result<()> {
     for f in 0..7 {
-        about_half(w, p, c, f);
+        about_half(rt, w, p, c, f)?;
     }
+    Ok(())
 }
 
-fn about_mark(w: &[u32], p: u32, d: u32, v: Mark) {
-    say_case(p);
-    say(b" mark");
-    say_number(v.0);
-    say(b" dimension");
-    say_number(d);
-    say(b": star");
+fn about_mark(rt: &impl Print, w: &[u32], p: u32, d: u32, v: Mark) -> io::Result<()> {
+    say_case(rt, p)?;
+    say(rt, " mark")?;
+    say_number(rt, v.0)?;
+    say(rt, " dimension")?;
+    say_number(rt, d)?;
+    say(rt, ": star")?;
     let mut cells = [0u32; 128];
     let n = star(w, d, v, &mut cells);
-    say_list(n, &cells);
-    say(b", anchors");
+    say_list(rt, n, &cells)?;
+    say(rt, ", anchors")?;
     let mut halves = [0u32; 128];
     let k = anchors(w, d, v, &mut halves);
-    say_list(k, &halves);
-    say(b", first");
-    say_found(first_anchor(w, d, v));
-    say(b"\n");
+    say_list(rt, k, &halves)?;
+    say(rt, ", first")?;
+    say_found(rt, first_anchor(w, d, v))?;
+    say(rt, "\n")
 }
 
-fn about_marks(w: &[u32], p: u32, d: u32) {
+fn about_marks(rt: &impl Print, w: &[u32], p: u32, d: u32) -> io::Result<()> {
     for v in 0..6 {
-        about_mark(w, p, d, Mark(v));
+        about_mark(rt, w, p, d, Mark(v))?;
     }
+    Ok(())
 }
 
-fn about_type(w: &[u32], p: u32, t: u32) {
-    say_case(p);
-    say(b" type");
-    say_number(t);
-    say(b": cells");
+fn about_type(rt: &impl Print, w: &[u32], p: u32, t: u32) -> io::Result<()> {
+    say_case(rt, p)?;
+    say(rt, " type")?;
+    say_number(rt, t)?;
+    say(rt, ": cells")?;
     let mut out = [0u32; 128];
     let n = cells_of_type(w, t, &mut out);
-    say_list(n, &out);
-    say(b", count");
-    say_value(count_of_type(w, t));
-    say(b"\n");
+    say_list(rt, n, &out)?;
+    say(rt, ", count")?;
+    say_value(rt, count_of_type(w, t))?;
+    say(rt, "\n")
 }
 
-fn about_set(w: &[u32], p: u32, set: &[u32]) {
-    say_case(p);
-    say(b" lookup");
-    say_numbers(set, set.len());
-    say(b":");
-    say_found(lookup(w, set));
-    say(b"\n");
+fn about_set(rt: &impl Print, w: &[u32], p: u32, set: &[u32]) -> io::Result<()> {
+    say_case(rt, p)?;
+    say(rt, " lookup")?;
+    say_numbers(rt, set, set.len())?;
+    say(rt, ":")?;
+    say_found(rt, lookup(w, set))?;
+    say(rt, "\n")
 }
 
 // The sets of marks that start with a, b and c.
-fn about_fours(w: &[u32], p: u32, a: u32, b: u32, c: u32) {
-    about_set(w, p, &[a, b, c]);
+fn about_fours(rt: &impl Print, w: &[u32], p: u32, a: u32, b: u32, c: u32) -> io::Result<()> {
+    about_set(rt, w, p, &[a, b, c])?;
     for d in 0..6 {
         if c < d {
-            about_set(w, p, &[a, b, c, d]);
+            about_set(rt, w, p, &[a, b, c, d])?;
         }
     }
+    Ok(())
 }
 
 // The sets of marks that start with a and b.
-fn about_triples(w: &[u32], p: u32, a: u32, b: u32) {
-    about_set(w, p, &[a, b]);
+fn about_triples(rt: &impl Print, w: &[u32], p: u32, a: u32, b: u32) -> io::Result<()> {
+    about_set(rt, w, p, &[a, b])?;
     for c in 0..6 {
         if b < c {
-            about_fours(w, p, a, b, c);
+            about_fours(rt, w, p, a, b, c)?;
         }
     }
+    Ok(())
 }
 
 // The sets of marks that start with a.
-fn about_pairs(w: &[u32], p: u32, a: u32) {
-    about_set(w, p, &[a]);
+fn about_pairs(rt: &impl Print, w: &[u32], p: u32, a: u32) -> io::Result<()> {
+    about_set(rt, w, p, &[a])?;
     for b in 0..6 {
         if a < b {
-            about_triples(w, p, a, b);
+            about_triples(rt, w, p, a, b)?;
         }
     }
+    Ok(())
 }
 
-fn about_cells(w: &[u32], p: u32) {
+fn about_cells(rt: &impl Print, w: &[u32], p: u32) -> io::Result<()> {
     for c in 0..5 {
-        about_cell(w, p, Cell(c));
-        about_halves(w, p, Cell(c));
+        about_cell(rt, w, p, Cell(c))?;
+        about_halves(rt, w, p, Cell(c))?;
     }
+    Ok(())
 }
 
-fn about_dimensions(w: &[u32], p: u32) {
+fn about_dimensions(rt: &impl Print, w: &[u32], p: u32) -> io::Result<()> {
     for d in 0..5 {
-        about_marks(w, p, d);
+        about_marks(rt, w, p, d)?;
     }
+    Ok(())
 }
 
-fn about_types(w: &[u32], p: u32) {
+fn about_types(rt: &impl Print, w: &[u32], p: u32) -> io::Result<()> {
     for t in 0..9 {
-        about_type(w, p, t);
+        about_type(rt, w, p, t)?;
     }
+    Ok(())
 }
 
-fn about_sets(w: &[u32], p: u32) {
+fn about_sets(rt: &impl Print, w: &[u32], p: u32) -> io::Result<()> {
     for a in 0..6 {
-        about_pairs(w, p, a);
+        about_pairs(rt, w, p, a)?;
     }
+    Ok(())
 }
 
-fn about_edition(w: &[u32], p: u32) {
-    say_case(p);
-    say(b" edition:");
-    say_value(edition(w));
-    say(b"\n");
+fn about_edition(rt: &impl Print, w: &[u32], p: u32) -> io::Result<()> {
+    say_case(rt, p)?;
+    say(rt, " edition:")?;
+    say_value(rt, edition(w))?;
+    say(rt, "\n")
 }
 
 // The capacities, the live cells and the first number that is free.
-fn about_room(w: &[u32], p: u32) {
-    say_case(p);
-    say(b" capacities:");
-    say_pair(capacities(w));
-    say(b", live");
+fn about_room(rt: &impl Print, w: &[u32], p: u32) -> io::Result<()> {
+    say_case(rt, p)?;
+    say(rt, " capacities:")?;
+    say_pair(rt, capacities(w))?;
+    say(rt, ", live")?;
     let mut out = [0u32; 128];
     let n = live(w, &mut out);
-    say_list(n, &out);
-    say(b", free");
-    say_cell(free(w));
-    say(b"\n");
+    say_list(rt, n, &out)?;
+    say(rt, ", free")?;
+    say_cell(rt, free(w))?;
+    say(rt, "\n")
 }
 
-fn about_whole(w: &[u32], p: u32) {
-    say_case(p);
+fn about_whole(rt: &impl Print, w: &[u32], p: u32) -> io::Result<()> {
+    say_case(rt, p)?;
     if whole(w) {
-        say(b" whole: yes\n");
+        say(rt, " whole: yes\n")
     } else {
-        say(b" whole: no\n");
+        say(rt, " whole: no\n")
     }
 }
 
 // Every query with every argument, each also one past its range; and the whole check.
-fn everything(w: &[u32], p: u32) {
-    about_cells(w, p);
-    about_dimensions(w, p);
-    about_types(w, p);
-    about_sets(w, p);
-    about_set(w, p, &[]);
-    about_set(w, p, &[1, 0, 1]);
-    about_set(w, p, &[0, 1, 2, 3, 4]);
-    about_edition(w, p);
-    about_room(w, p);
-    about_whole(w, p);
+fn everything(rt: &impl Print, w: &[u32], p: u32) -> io::Result<()> {
+    about_cells(rt, w, p)?;
+    about_dimensions(rt, w, p)?;
+    about_types(rt, w, p)?;
+    about_sets(rt, w, p)?;
+    about_set(rt, w, p, &[])?;
+    about_set(rt, w, p, &[1, 0, 1])?;
+    about_set(rt, w, p, &[0, 1, 2, 3, 4])?;
+    about_edition(rt, w, p)?;
+    about_room(rt, w, p)?;
+    about_whole(rt, w, p)
 }
 
-fn about_solid_marks(w: &[u32], p: u32) {
+fn about_solid_marks(rt: &impl Print, w: &[u32], p: u32) -> io::Result<()> {
     for v in 0..13 {
-        about_mark(w, p, 3, Mark(v));
+        about_mark(rt, w, p, 3, Mark(v))?;
     }
+    Ok(())
 }
 
-fn about_faces(w: &[u32], p: u32) {
-    about_set(w, p, &[4, 5, 6, 7]);
-    about_set(w, p, &[7, 5, 4, 6]);
-    about_set(w, p, &[1, 2, 6, 5]);
-    about_set(w, p, &[2, 8, 9, 6]);
-    about_set(w, p, &[8, 2, 1]);
-    about_set(w, p, &[0, 1, 6, 7]);
-    about_set(w, p, &[0, 1, 2, 12]);
-    about_set(w, p, &[0, 1, 2, 3, 12]);
+fn about_faces(rt: &impl Print, w: &[u32], p: u32) -> io::Result<()> {
+    about_set(rt, w, p, &[4, 5, 6, 7])?;
+    about_set(rt, w, p, &[7, 5, 4, 6])?;
+    about_set(rt, w, p, &[1, 2, 6, 5])?;
+    about_set(rt, w, p, &[2, 8, 9, 6])?;
+    about_set(rt, w, p, &[8, 2, 1])?;
+    about_set(rt, w, p, &[0, 1, 6, 7])?;
+    about_set(rt, w, p, &[0, 1, 2, 12])?;
+    about_set(rt, w, p, &[0, 1, 2, 3, 12])
 }
 
 // The same of solids, with some sets only.
-fn of_solids(w: &[u32], p: u32) {
-    about_cells(w, p);
-    about_solid_marks(w, p);
-    about_types(w, p);
-    about_faces(w, p);
-    about_edition(w, p);
-    about_room(w, p);
-    about_whole(w, p);
+fn of_solids(rt: &impl Print, w: &[u32], p: u32) -> io::Result<()> {
+    about_cells(rt, w, p)?;
+    about_solid_marks(rt, w, p)?;
+    about_types(rt, w, p)?;
+    about_faces(rt, w, p)?;
+    about_edition(rt, w, p)?;
+    about_room(rt, w, p)?;
+    about_whole(rt, w, p)
 }
 
-fn try_remove(w: &mut [u32], c: Cell) {
-    say(b" remove");
-    say_number(c.0);
-    say(b":");
-    say_verdict(remove(w, c));
-    say(b"\n");
+fn try_remove(rt: &impl Print, w: &mut [u32], c: Cell) -> io::Result<()> {
+    say(rt, " remove")?;
+    say_number(rt, c.0)?;
+    say(rt, ":")?;
+    say_verdict(rt, remove(w, c))?;
+    say(rt, "\n")
 }
 
 // The licence, unless it is 0.
-fn say_licence(licence: u32) {
+fn say_licence(rt: &impl Print, licence: u32) -> io::Result<()> {
     if licence == 0 {
-        return;
+        return Ok(());
     }
-    say(b" licence");
-    say_number(licence);
+    say(rt, " licence")?;
+    say_number(rt, licence)
 }
 
 // The insert without a licence, where it is 0.
@@ -594,158 +603,185 @@ fn made_insert(w: &mut [u32], c: Cell, t: u32, licence: u32, marks: &[u32]) -> V
     insert_licensed(w, c, t, licence, marks)
 }
 
-fn try_insert(w: &mut [u32], c: Cell, t: u32, licence: u32, marks: &[u32]) {
-    say(b" insert");
-    say_number(c.0);
-    say(b" type");
-    say_number(t);
-    say_licence(licence);
-    say(b" marks");
-    say_numbers(marks, marks.len());
-    say(b":");
-    say_verdict(made_insert(w, c, t, licence, marks));
-    say(b"\n");
+fn try_insert(
+    rt: &impl Print,
+    w: &mut [u32],
+    c: Cell,
+    t: u32,
+    licence: u32,
+    marks: &[u32],
+) -> io::Result<()> {
+    say(rt, " insert")?;
+    say_number(rt, c.0)?;
+    say(rt, " type")?;
+    say_number(rt, t)?;
+    say_licence(rt, licence)?;
+    say(rt, " marks")?;
+    say_numbers(rt, marks, marks.len())?;
+    say(rt, ":")?;
+    say_verdict(rt, made_insert(w, c, t, licence, marks))?;
+    say(rt, "\n")
 }
 
 // One row of the edits, where it is of this case.
-fn try_edit(w: &mut [u32], p: u32, k: usize) {
+fn try_edit(rt: &impl Print, w: &mut [u32], p: u32, k: usize) -> io::Result<()> {
     let row = edit_row(k);
     if row[0] != p {
-        return;
+        return Ok(());
     }
-    say_case(p);
+    say_case(rt, p)?;
     if row[1] == 0 {
-        try_remove(w, Cell(row[2]));
+        try_remove(rt, w, Cell(row[2]))
     } else {
         let n = row[5];
-        try_insert(w, Cell(row[2]), row[3], row[4], part(&row, 6, n as usize));
+        try_insert(
+            rt,
+            w,
+            Cell(row[2]),
+            row[3],
+            row[4],
+            part(&row, 6, n as usize),
+        )
     }
 }
 
-fn try_edits(w: &mut [u32], p: u32) {
+fn try_edits(rt: &impl Print, w: &mut [u32], p: u32) -> io::Result<()> {
     for k in 0..EDITS {
-        try_edit(w, p, k);
+        try_edit(rt, w, p, k)?;
     }
+    Ok(())
 }
 
-fn say_made(m: Edits) {
+fn say_made(rt: &impl Print, m: Edits) -> io::Result<()> {
     match m {
-        Edits::Made(n) => say_size(n),
+        Edits::Made(n) => say_size(rt, n),
         Edits::Stopped(n, why) => {
-            say_size(n);
-            say_refusal(why);
+            say_size(rt, n)?;
+            say_refusal(rt, why)
         }
     }
 }
 
 // A tally of these counts, and what it is after a list.
-fn say_tally(accepted: u32, refused: u32, made: Edits) {
-    say(b", tally");
-    say_number(accepted);
-    say_number(refused);
+fn say_tally(rt: &impl Print, accepted: u32, refused: u32, made: Edits) -> io::Result<()> {
+    say(rt, ", tally")?;
+    say_number(rt, accepted)?;
+    say_number(rt, refused)?;
     let tally = Tally {
         accepted: accepted,
         refused: refused,
     };
     let after = tallied(tally, made);
-    say(b" to");
-    say_number(after.accepted);
-    say_number(after.refused);
+    say(rt, " to")?;
+    say_number(rt, after.accepted)?;
+    say_number(rt, after.refused)
 }
 
 // A list of edits, with a tally of these counts.
-fn try_list(w: &mut [u32], p: u32, accepted: u32, refused: u32, list: &[u32]) {
-    say_case(p);
-    say(b" edits");
-    say_numbers(list, list.len());
-    say(b": made");
+fn try_list(
+    rt: &impl Print,
+    w: &mut [u32],
+    p: u32,
+    accepted: u32,
+    refused: u32,
+    list: &[u32],
+) -> io::Result<()> {
+    say_case(rt, p)?;
+    say(rt, " edits")?;
+    say_numbers(rt, list, list.len())?;
+    say(rt, ": made")?;
     let made = make_edits(w, list);
-    say_made(made);
-    say_tally(accepted, refused, made);
-    say(b"\n");
+    say_made(rt, made)?;
+    say_tally(rt, accepted, refused, made)?;
+    say(rt, "\n")
 }
 
-fn run_case(w: &mut [u32], p: u32, e: u32) {
+fn run_case(rt: &impl Print, w: &mut [u32], p: u32, e: u32) -> io::Result<()> {
     let row = records(p);
     let n = size(p);
-    say_case(p);
-    say(b" build:");
-    say_built(build_edition(w, MARKS, CELLS, e, part(&row, 0, n as usize)));
-    say(b"\n");
-    try_edits(w, p);
-    everything(w, p);
+    say_case(rt, p)?;
+    say(rt, " build:")?;
+    say_built(
+        rt,
+        build_edition(w, MARKS, CELLS, e, part(&row, 0, n as usize)),
+    )?;
+    say(rt, "\n")?;
+    try_edits(rt, w, p)?;
+    everything(rt, w, p)
 }
 
-fn one_case(p: u32, e: u32) {
+fn one_case(rt: &impl Print, p: u32, e: u32) -> io::Result<()> {
     let mut w = [0u32; 184];
-    run_case(&mut w, p, e);
+    run_case(rt, &mut w, p, e)
 }
 
-fn run_solids(w: &mut [u32], p: u32, e: u32) {
-    say_case(p);
-    say(b" build:");
-    say_built(build_edition(w, SOLID_MARKS, CELLS, e, &[]));
-    say(b"\n");
-    try_edits(w, p);
-    of_solids(w, p);
+fn run_solids(rt: &impl Print, w: &mut [u32], p: u32, e: u32) -> io::Result<()> {
+    say_case(rt, p)?;
+    say(rt, " build:")?;
+    say_built(rt, build_edition(w, SOLID_MARKS, CELLS, e, &[]))?;
+    say(rt, "\n")?;
+    try_edits(rt, w, p)?;
+    of_solids(rt, w, p)
 }
 
-fn solids(p: u32, e: u32) {
+fn solids(rt: &impl Print, p: u32, e: u32) -> io::Result<()> {
     let mut w = [0u32; 240];
-    run_solids(&mut w, p, e);
+    run_solids(rt, &mut w, p, e)
 }
 
 // Two solids at most on a face.
-fn limited() {
-    one_case(26, SECOND_EDITION);
-    one_case(27, SECOND_EDITION);
-    solids(28, SECOND_EDITION);
-    solids(29, SECOND_EDITION);
-    solids(30, SECOND_EDITION);
+fn limited(rt: &impl Print) -> io::Result<()> {
+    one_case(rt, 26, SECOND_EDITION)?;
+    one_case(rt, 27, SECOND_EDITION)?;
+    solids(rt, 28, SECOND_EDITION)?;
+    solids(rt, 29, SECOND_EDITION)?;
+    solids(rt, 30, SECOND_EDITION)
 }
 
 // Memory that is no mesh.
-fn no_mesh() {
+fn no_mesh(rt: &impl Print) -> io::Result<()> {
     let w = [0u32; 184];
-    everything(&w, 25);
+    everything(rt, &w, 25)
 }
 
 // A morning's edits, list by list: made, and stopped at an edit.
-fn run_made(w: &mut [u32]) {
-    try_list(w, 35, 0, 0, &[]);
+fn run_made(rt: &impl Print, w: &mut [u32]) -> io::Result<()> {
+    try_list(rt, w, 35, 0, 0, &[])?;
     try_list(
+        rt,
         w,
         35,
         0,
         0,
         &[1, 0, 2, 0, 0, 1, 2, 1, 1, 2, 7, 2, 1, 3, 2, 0],
-    );
-    try_list(w, 35, 3, 0, &[2, 1, 2, 1, 1, 0, 2, 0, 0, 1, 2]);
-    try_list(w, 35, 4, 1, &[1, 0, 2, 9, 0, 1, 2, 3, 1]);
+    )?;
+    try_list(rt, w, 35, 3, 0, &[2, 1, 2, 1, 1, 0, 2, 0, 0, 1, 2])?;
+    try_list(rt, w, 35, 4, 1, &[1, 0, 2, 9, 0, 1, 2, 3, 1])
 }
 
 // Kinds that are none, and a number, type or licence that is missing.
-fn run_short(w: &mut [u32]) {
-    try_list(w, 35, 5, 2, &[0]);
-    try_list(w, 35, 5, 2, &[2]);
-    try_list(w, 35, 5, 2, &[1]);
-    try_list(w, 35, 5, 2, &[1, 1]);
-    try_list(w, 35, 5, 2, &[1, 1, 2]);
-    try_list(w, 35, 5, 2, &[1, 1, 8]);
+fn run_short(rt: &impl Print, w: &mut [u32]) -> io::Result<()> {
+    try_list(rt, w, 35, 5, 2, &[0])?;
+    try_list(rt, w, 35, 5, 2, &[2])?;
+    try_list(rt, w, 35, 5, 2, &[1])?;
+    try_list(rt, w, 35, 5, 2, &[1, 1])?;
+    try_list(rt, w, 35, 5, 2, &[1, 1, 2])?;
+    try_list(rt, w, 35, 5, 2, &[1, 1, 8])
 }
 
 // The insert's own refusals, with marks missing or not.
-fn run_own(w: &mut [u32]) {
-    try_list(w, 35, 5, 2, &[1, 1, 8, 7]);
-    try_list(w, 35, 5, 2, &[1, 9, 2, 7]);
-    try_list(w, 35, 5, 2, &[1, 0, 2, 7]);
-    try_list(w, 35, 5, 2, &[1, 1, 2, 7, 0, 1]);
-    try_list(w, 35, 5, 2, &[1, 1, 2, 7, 2, 1, 0]);
+fn run_own(rt: &impl Print, w: &mut [u32]) -> io::Result<()> {
+    try_list(rt, w, 35, 5, 2, &[1, 1, 8, 7])?;
+    try_list(rt, w, 35, 5, 2, &[1, 9, 2, 7])?;
+    try_list(rt, w, 35, 5, 2, &[1, 0, 2, 7])?;
+    try_list(rt, w, 35, 5, 2, &[1, 1, 2, 7, 0, 1])?;
+    try_list(rt, w, 35, 5, 2, &[1, 1, 2, 7, 2, 1, 0])
 }
 
 // A list of edits of both kinds and more types, all made.
-fn run_all(w: &mut [u32]) {
+fn run_all(rt: &impl Print, w: &mut [u32]) -> io::Result<()> {
     try_list(
+        rt,
         w,
         35,
         5,
@@ -753,257 +789,275 @@ fn run_all(w: &mut [u32]) {
         &[
             1, 1, 3, 7, 0, 1, 2, 3, 2, 0, 1, 0, 4, 4294967295, 0, 1, 2, 3,
         ],
-    );
+    )
 }
 
 // A count at its largest number stays there.
-fn run_counts(w: &mut [u32]) {
-    try_list(w, 35, 4294967294, 4294967294, &[2, 0, 2, 1, 2, 1]);
-    try_list(w, 35, 4294967295, 4294967295, &[1, 0, 2, 0, 0, 1, 2, 2, 3]);
-    try_list(w, 35, 4294967294, 4294967295, &[1, 1, 2, 7, 0, 1, 3]);
+fn run_counts(rt: &impl Print, w: &mut [u32]) -> io::Result<()> {
+    try_list(rt, w, 35, 4294967294, 4294967294, &[2, 0, 2, 1, 2, 1])?;
+    try_list(
+        rt,
+        w,
+        35,
+        4294967295,
+        4294967295,
+        &[1, 0, 2, 0, 0, 1, 2, 2, 3],
+    )?;
+    try_list(rt, w, 35, 4294967294, 4294967295, &[1, 1, 2, 7, 0, 1, 3])
 }
 
 // "14 first, for an empty list too"
-fn run_none(w: &mut [u32]) {
-    try_list(w, 36, 0, 0, &[]);
-    try_list(w, 36, 7, 4294967294, &[2, 0]);
-    try_list(w, 36, 7, 4294967295, &[3]);
+fn run_none(rt: &impl Print, w: &mut [u32]) -> io::Result<()> {
+    try_list(rt, w, 36, 0, 0, &[])?;
+    try_list(rt, w, 36, 7, 4294967294, &[2, 0])?;
+    try_list(rt, w, 36, 7, 4294967295, &[3])
 }
 
-fn mornings() {
+fn mornings(rt: &impl Print) -> io::Result<()> {
     let mut w = [0u32; 184];
     format(&mut w, MARKS, CELLS);
-    run_made(&mut w);
-    run_short(&mut w);
-    run_own(&mut w);
-    run_all(&mut w);
-    run_counts(&mut w);
-    everything(&w, 35);
+    run_made(rt, &mut w)?;
+    run_short(rt, &mut w)?;
+    run_own(rt, &mut w)?;
+    run_all(rt, &mut w)?;
+    run_counts(rt, &mut w)?;
+    everything(rt, &w, 35)?;
     let mut none = [0u32; 184];
-    run_none(&mut none);
+    run_none(rt, &mut none)
 }
 
-fn try_format(w: &mut [u32], marks: u32, cells: u32) {
-    say(b"bound format");
-    say_size(w.len());
-    say(b" words");
-    say_number(marks);
-    say_number(cells);
-    say(b":");
-    say_verdict(format(w, marks, cells));
-    say(b"\n");
+fn try_format(rt: &impl Print, w: &mut [u32], marks: u32, cells: u32) -> io::Result<()> {
+    say(rt, "bound format")?;
+    say_size(rt, w.len())?;
+    say(rt, " words")?;
+    say_number(rt, marks)?;
+    say_number(rt, cells)?;
+    say(rt, ":")?;
+    say_verdict(rt, format(w, marks, cells))?;
+    say(rt, "\n")
 }
 
 // The room exact, and one word short.
-fn try_room(w: &mut [u32], marks: u32, cells: u32) {
-    try_format(w, marks, cells);
+fn try_room(rt: &impl Print, w: &mut [u32], marks: u32, cells: u32) -> io::Result<()> {
+    try_format(rt, w, marks, cells)?;
     let n = w.len();
     if 0 < n {
-        try_format(&mut w[1..], marks, cells);
+        try_format(rt, &mut w[1..], marks, cells)?;
     }
+    Ok(())
 }
 
-fn most_marks() {
+fn most_marks(rt: &impl Print) -> io::Result<()> {
     let mut w = [0u32; 524296];
-    try_room(&mut w, 65535, 0);
+    try_room(rt, &mut w, 65535, 0)
 }
 
-fn above_most(w: &mut [u32]) {
-    try_format(w, 65536, 0);
-    try_format(w, 0, 65536);
-    try_format(w, 65535, 65535);
-    try_room(w, MARKS, CELLS);
+fn above_most(rt: &impl Print, w: &mut [u32]) -> io::Result<()> {
+    try_format(rt, w, 65536, 0)?;
+    try_format(rt, w, 0, 65536)?;
+    try_format(rt, w, 65535, 65535)?;
+    try_room(rt, w, MARKS, CELLS)
 }
 
-fn formats() {
-    most_marks();
+fn formats(rt: &impl Print) -> io::Result<()> {
+    most_marks(rt)?;
     let mut w = [0u32; 184];
-    above_most(&mut w);
+    above_most(rt, &mut w)?;
     let mut head = [0u32; 16];
-    try_room(&mut head, 0, 0);
+    try_room(rt, &mut head, 0, 0)
 }
 
-fn try_edition(w: &mut [u32], marks: u32, cells: u32, e: u32) {
-    say(b"bound format");
-    say_size(w.len());
-    say(b" words");
-    say_number(marks);
-    say_number(cells);
-    say(b" edition");
-    say_number(e);
-    say(b":");
-    say_verdict(format_edition(w, marks, cells, e));
-    say(b"\n");
+fn try_edition(rt: &impl Print, w: &mut [u32], marks: u32, cells: u32, e: u32) -> io::Result<()> {
+    say(rt, "bound format")?;
+    say_size(rt, w.len())?;
+    say(rt, " words")?;
+    say_number(rt, marks)?;
+    say_number(rt, cells)?;
+    say(rt, " edition")?;
+    say_number(rt, e)?;
+    say(rt, ":")?;
+    say_verdict(rt, format_edition(w, marks, cells, e))?;
+    say(rt, "\n")
 }
 
-fn one_edition(marks: u32, cells: u32, e: u32) {
+fn one_edition(rt: &impl Print, marks: u32, cells: u32, e: u32) -> io::Result<()> {
     let mut w = [0u32; 184];
-    try_edition(&mut w, marks, cells, e);
+    try_edition(rt, &mut w, marks, cells, e)
 }
 
 // Siblings that run every way.
-fn every_way() {
-    one_case(31, FIRST_EDITION);
-    one_case(32, FIRST_EDITION);
-    one_case(33, FIRST_EDITION);
-    solids(34, FIRST_EDITION);
+fn every_way(rt: &impl Print) -> io::Result<()> {
+    one_case(rt, 31, FIRST_EDITION)?;
+    one_case(rt, 32, FIRST_EDITION)?;
+    one_case(rt, 33, FIRST_EDITION)?;
+    solids(rt, 34, FIRST_EDITION)
 }
 
 // "6 for another edition, before 1 and like it"
-fn editions() {
-    one_edition(MARKS, CELLS, 0);
-    one_edition(MARKS, CELLS, 1);
-    one_edition(MARKS, CELLS, 2);
-    one_edition(MARKS, CELLS, 3);
-    one_edition(MARKS, CELLS, 258);
-    one_edition(65536, 0, 2);
-    one_edition(65536, 0, 3);
-    one_edition(65535, 65535, 2);
-    one_edition(65535, 65535, 3);
+fn editions(rt: &impl Print) -> io::Result<()> {
+    one_edition(rt, MARKS, CELLS, 0)?;
+    one_edition(rt, MARKS, CELLS, 1)?;
+    one_edition(rt, MARKS, CELLS, 2)?;
+    one_edition(rt, MARKS, CELLS, 3)?;
+    one_edition(rt, MARKS, CELLS, 258)?;
+    one_edition(rt, 65536, 0, 2)?;
+    one_edition(rt, 65536, 0, 3)?;
+    one_edition(rt, 65535, 65535, 2)?;
+    one_edition(rt, 65535, 65535, 3)
 }
 
 // A bar from mark 0 to the mark of the cell's number and one.
-fn try_bar(w: &mut [u32], c: Cell) {
+fn try_bar(rt: &impl Print, w: &mut [u32], c: Cell) -> io::Result<()> {
     if 65535 < c.0 {
-        return;
+        return Ok(());
     }
-    say(b"bound insert");
-    say_number(c.0);
-    say(b":");
-    say_verdict(insert(w, c, 1, &[0, c.0 + 1]));
-    say(b"\n");
+    say(rt, "bound insert")?;
+    say_number(rt, c.0)?;
+    say(rt, ":")?;
+    say_verdict(rt, insert(w, c, 1, &[0, c.0 + 1]))?;
+    say(rt, "\n")
 }
 
 // Lists into an output of this length.
-fn lists_in(w: &[u32], out: &mut [u32]) {
-    say(b"bound star");
-    say_size(out.len());
-    say(b":");
+fn lists_in(rt: &impl Print, w: &[u32], out: &mut [u32]) -> io::Result<()> {
+    say(rt, "bound star")?;
+    say_size(rt, out.len())?;
+    say(rt, ":")?;
     let stars = star(w, 1, Mark(0), out);
-    say_list(stars, out);
-    say(b"\nbound neighbours");
-    say_size(out.len());
-    say(b":");
+    say_list(rt, stars, out)?;
+    say(rt, "\nbound neighbours")?;
+    say_size(rt, out.len())?;
+    say(rt, ":")?;
     let near = neighbours(w, Cell(7), out);
-    say_list(near, out);
-    say(b"\n");
+    say_list(rt, near, out)?;
+    say(rt, "\n")
 }
 
-fn lists_too(w: &[u32], out: &mut [u32]) {
-    say(b"bound cells");
-    say_size(out.len());
-    say(b":");
+fn lists_too(rt: &impl Print, w: &[u32], out: &mut [u32]) -> io::Result<()> {
+    say(rt, "bound cells")?;
+    say_size(rt, out.len())?;
+    say(rt, ":")?;
     let cells = cells_of_type(w, 1, out);
-    say_list(cells, out);
-    say(b"\nbound anchors");
-    say_size(out.len());
-    say(b":");
+    say_list(rt, cells, out)?;
+    say(rt, "\nbound anchors")?;
+    say_size(rt, out.len())?;
+    say(rt, ":")?;
     let first = anchors(w, 1, Mark(0), out);
-    say_list(first, out);
-    say(b"\n");
+    say_list(rt, first, out)?;
+    say(rt, "\n")
 }
 
-fn list_live(w: &[u32], out: &mut [u32]) {
-    say(b"bound live");
-    say_size(out.len());
-    say(b":");
+fn list_live(rt: &impl Print, w: &[u32], out: &mut [u32]) -> io::Result<()> {
+    say(rt, "bound live")?;
+    say_size(rt, out.len())?;
+    say(rt, ":")?;
     let cells = live(w, out);
-    say_list(cells, out);
-    say(b", free");
-    say_cell(free(w));
-    say(b"\n");
+    say_list(rt, cells, out)?;
+    say(rt, ", free")?;
+    say_cell(rt, free(w))?;
+    say(rt, "\n")
 }
 
-fn lists_all(w: &[u32], out: &mut [u32]) {
-    lists_in(w, out);
-    lists_too(w, out);
-    list_live(w, out);
+fn lists_all(rt: &impl Print, w: &[u32], out: &mut [u32]) -> io::Result<()> {
+    lists_in(rt, w, out)?;
+    lists_too(rt, w, out)?;
+    list_live(rt, w, out)
 }
 
-fn lists_cut(w: &[u32], out: &mut [u32], cut: usize) {
+fn lists_cut(rt: &impl Print, w: &[u32], out: &mut [u32], cut: usize) -> io::Result<()> {
     if cut <= out.len() {
-        lists_all(w, &mut out[cut..]);
+        lists_all(rt, w, &mut out[cut..])?;
     }
+    Ok(())
 }
 
 // The cycle and the ways beside it, each into an output of its own.
-fn ring_in(w: &[u32], out: &mut [u32], ways: &mut [u32]) {
-    say(b"bound cycle");
-    say_size(out.len());
-    say_size(ways.len());
-    say(b":");
+fn ring_in(rt: &impl Print, w: &[u32], out: &mut [u32], ways: &mut [u32]) -> io::Result<()> {
+    say(rt, "bound cycle")?;
+    say_size(rt, out.len())?;
+    say_size(rt, ways.len())?;
+    say(rt, ":")?;
     let ring = cycle(w, Cell(7), 0, out, ways);
-    say_cycle(ring, out, ways);
-    say(b"\n");
+    say_cycle(rt, ring, out, ways)?;
+    say(rt, "\n")
 }
 
-fn ring_cut(w: &[u32], out: &mut [u32], ways: &mut [u32], cut: usize, short: usize) {
+fn ring_cut(
+    rt: &impl Print,
+    w: &[u32],
+    out: &mut [u32],
+    ways: &mut [u32],
+    cut: usize,
+    short: usize,
+) -> io::Result<()> {
     if cut <= out.len() {
         if short <= ways.len() {
-            ring_in(w, &mut out[cut..], &mut ways[short..]);
+            ring_in(rt, w, &mut out[cut..], &mut ways[short..])?;
         }
     }
+    Ok(())
 }
 
 // The cycle into an output of 128 places cut by some, and the ways into one cut by as many or by others.
-fn ring(w: &[u32], cut: usize, short: usize) {
+fn ring(rt: &impl Print, w: &[u32], cut: usize, short: usize) -> io::Result<()> {
     let mut out = [0u32; 128];
     let mut ways = [0u32; 128];
-    ring_cut(w, &mut out, &mut ways, cut, short);
+    ring_cut(rt, w, &mut out, &mut ways, cut, short)
 }
 
 // Lists into an output of 128 places, cut by some.
-fn lists(w: &[u32], cut: usize) {
+fn lists(rt: &impl Print, w: &[u32], cut: usize) -> io::Result<()> {
     let mut out = [0u32; 128];
-    lists_cut(w, &mut out, cut);
-    ring(w, cut, cut);
+    lists_cut(rt, w, &mut out, cut)?;
+    ring(rt, w, cut, cut)
 }
 
-fn try_bars(w: &mut [u32]) {
+fn try_bars(rt: &impl Print, w: &mut [u32]) -> io::Result<()> {
     for c in 0..129 {
-        try_bar(w, Cell(c));
+        try_bar(rt, w, Cell(c))?;
     }
+    Ok(())
 }
 
 // A mark's 128th and 129th cell.
-fn fill_mark(w: &mut [u32]) {
-    try_format(w, 130, 129);
-    try_bars(w);
-    lists(w, 2);
-    lists(w, 1);
-    lists(w, 0);
-    ring(w, 1, 0);
-    ring(w, 0, 1);
+fn fill_mark(rt: &impl Print, w: &mut [u32]) -> io::Result<()> {
+    try_format(rt, w, 130, 129)?;
+    try_bars(rt, w)?;
+    lists(rt, w, 2)?;
+    lists(rt, w, 1)?;
+    lists(rt, w, 0)?;
+    ring(rt, w, 1, 0)?;
+    ring(rt, w, 0, 1)
 }
 
-fn refill_mark(w: &mut [u32]) {
-    say(b"bound");
-    try_remove(w, Cell(5));
-    lists(w, 1);
-    try_bar(w, Cell(128));
-    try_bar(w, Cell(5));
-    lists(w, 0);
+fn refill_mark(rt: &impl Print, w: &mut [u32]) -> io::Result<()> {
+    say(rt, "bound")?;
+    try_remove(rt, w, Cell(5))?;
+    lists(rt, w, 1)?;
+    try_bar(rt, w, Cell(128))?;
+    try_bar(rt, w, Cell(5))?;
+    lists(rt, w, 0)
 }
 
-fn full_mark() {
+fn full_mark(rt: &impl Print) -> io::Result<()> {
     let mut w = [0u32; 5184];
-    fill_mark(&mut w);
-    refill_mark(&mut w);
+    fill_mark(rt, &mut w)?;
+    refill_mark(rt, &mut w)
 }
 
-fn main() {
+fn main(rt: HostRuntime) -> io::Result<()> {
     for p in 1..21 {
-        one_case(p, FIRST_EDITION);
+        one_case(&rt, p, FIRST_EDITION)?;
     }
-    solids(21, FIRST_EDITION);
-    solids(22, FIRST_EDITION);
-    solids(23, FIRST_EDITION);
-    solids(24, FIRST_EDITION);
-    no_mesh();
-    limited();
-    every_way();
-    mornings();
-    formats();
-    editions();
-    full_mark();
+    solids(&rt, 21, FIRST_EDITION)?;
+    solids(&rt, 22, FIRST_EDITION)?;
+    solids(&rt, 23, FIRST_EDITION)?;
+    solids(&rt, 24, FIRST_EDITION)?;
+    no_mesh(&rt)?;
+    limited(&rt)?;
+    every_way(&rt)?;
+    mornings(&rt)?;
+    formats(&rt)?;
+    editions(&rt)?;
+    full_mark(&rt)
 }
