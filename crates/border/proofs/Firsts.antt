@@ -20,7 +20,10 @@ use Rattle.map.specs.Cells.{Map}
 use Rattle.map.specs.Sound.{Fitting}
 use Rattle.map.specs.Siblings.{border}
 use Rattle.map.specs.Stars.{star, group, halves_at, anchor, anchors}
-use Rattle.laws.proofs.Anchors.{halves_has, has_halves, halves_ascend, group_of_star, group_in_star, anchor_half, anchor_border, anchor_least, anchors_of, anchors_listed, anchors_ascend}
+use Rattle.laws.proofs.Anchors.{halves_has, has_halves, halves_ascend, group_of_star, anchor_border, anchor_least, anchors_of, anchors_ascend}
+use Rattle.laws.proofs.StarGroups.{group_in_star}
+use Rattle.laws.proofs.Anchored.{anchor_half}
+use Rattle.laws.proofs.AnchorsListed.{anchors_listed}
 use Rattle.picture.specs.State.{next}
 use Rattle.border.specs.First.{star_halves, star_borders, bordered, leads}
 

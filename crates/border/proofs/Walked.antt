@@ -28,7 +28,8 @@ use Rattle.map.specs.Cells.{Map, holds, facets_at}
 use Rattle.map.specs.Sound.{Sound}
 use Rattle.map.specs.Siblings.{is_half, Half, marks_of, sibling, border}
 use Rattle.map.specs.Stars.{star, linked, group, halves_at}
-use Rattle.laws.proofs.Anchors.{facets_linked, star_one_group, star_has, has_star, halves_has, has_halves, group_in_star, corner_half}
+use Rattle.laws.proofs.Anchors.{facets_linked, star_has, has_star, halves_has, has_halves, corner_half}
+use Rattle.laws.proofs.StarGroups.{star_one_group, group_in_star}
 use Rattle.laws.proofs.Cycles.{sibling_has, sibling_set, sibling_live, self_border}
 use Rattle.laws.proofs.Facets.{siblings_dimension}
 use Rattle.laws.proofs.Groups.{group_closed}

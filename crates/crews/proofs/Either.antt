@@ -24,10 +24,10 @@ use Rattle.mesh.specs.Run.{done, then}
 use Rattle.mesh.proofs.Evening.{one_memory}
 use Rattle.whole.specs.Whole.{Whole}
 use Rattle.whole.proofs.One.{whole_yes}
-use Rattle.stories.proofs.Afresh.{asked_alike, handed_alike, listed_alike, paired_alike}
+use Rattle.stories.proofs.Alike.{asked_alike, handed_alike, listed_alike, paired_alike}
 use Rattle.stories.proofs.Records.{count_listed}
 use Rattle.crews.specs.Crews.{TwoCrews}
-use Rattle.crews.proofs.Kept.{answer_kept}
+use Rattle.crews.proofs.Answered.{answer_kept}
 use Rattle.crews.proofs.Swapped.{crews_swap, edited_swap}
 
 -- the second of two edits gets the answer that it gets without the first

@@ -23,10 +23,11 @@ use Rattle.map.specs.Cells.{Body, Map, live, sets_of, facets_at, cells_of}
 use Rattle.map.specs.Siblings.{sharers}
 use Rattle.map.specs.Stars.{holders}
 use Rattle.map.specs.Answers.{◌when◌, answer, third, insert_checks, cell_checks}
-use Rattle.map.specs.History.{Edit, Insert, Remove, cell_of, edit_body, edit_answer, changed, edited}
+use Rattle.map.specs.History.{Edit, Insert, Remove, cell_of, edit_body, edit_answer, changed}
 use Rattle.map.specs.Sound.{Sound}
 use Rattle.laws.proofs.Facets.{facet_some}
-use Rattle.laws.proofs.Local.{Apart, Free, apart_back, facets_inside, holders_free, sharers_free, apart_changed, free_changed}
+use Rattle.laws.proofs.Local.{Apart, Free, apart_back, facets_inside, holders_free, sharers_free, apart_changed}
+use Rattle.laws.proofs.FreeChanged.{free_changed}
 use Rattle.laws.proofs.Solids.{part}
 use Rattle.crews.specs.Crews.{crew_marks, TwoCrews}
 
@@ -130,18 +131,9 @@ module _ (m : Map) (s : Sound m) where
   accepted_marks (Remove c) ok = ap (λ (n : ℕ). cond (eqb n 0) (m.at c).marks []) ok
 
   -- an edit is answered alike before and after an accepted one of the other crew
-  changed_kept : (a b : Edit) → TwoCrews m a b → (edit_answer m b).refusal ≡ 0 → edit_answer (changed m b) a ≡ edit_answer m a
+  pub changed_kept : (a b : Edit) → TwoCrews m a b → (edit_answer m b).refusal ≡ 0 → edit_answer (changed m b) a ≡ edit_answer m a
   unfolding crew_marks
   changed_kept (Insert c x) b crews ok =
       insertion_kept m (changed m b) (cell_of b) (apart_changed m s b ok) x
       (λ v h. free_changed m s b ok v (rw (accepted_marks b ok) at (crews.marks v h))) c crews.numbers
   changed_kept (Remove c) b crews ok = removal_kept m (changed m b) (cell_of b) (apart_changed m s b ok) c crews.numbers
-
-  -- "each gets the same answer both times": and before and after one that is refused
-  pub answer_kept : (a b : Edit) → TwoCrews m a b → edit_answer (edited m b) a ≡ edit_answer m a
-  unfolding edited
-  answer_kept a b crews = go (eqb (edit_answer m b).refusal 0) refl
-    where
-      go : (t : Bool) → eqb (edit_answer m b).refusal 0 ≡ t → edit_answer (cond t (changed m b) m) a ≡ edit_answer m a
-      go true ok = changed_kept a b crews (eqb-true _ 0 ok)
-      go false why = refl

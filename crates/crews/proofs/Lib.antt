@@ -4,3 +4,4 @@ pub mod Swapped
 pub mod Either
 pub mod Lists
 pub mod Tallies
+pub mod Answered

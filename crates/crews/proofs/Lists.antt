@@ -15,10 +15,11 @@ use Rattle.map.specs.Answers.{Answer}
 use Rattle.map.specs.History.{Edit, Insert, Remove, cell_of, edit_answer, changed, edited}
 use Rattle.map.specs.Morning.{Morning, one_more, in_turn}
 use Rattle.map.specs.Sound.{Sound}
-use Rattle.laws.proofs.Edits.{edited_changed, sound_edited}
+use Rattle.laws.proofs.Edits.{edited_changed}
+use Rattle.laws.proofs.Histories.{sound_edited}
 use Rattle.edits.proofs.Wellformed.{turn_made, turn_refused}
 use Rattle.crews.specs.Crews.{crew_marks, TwoCrews, numbers_of, list_marks, TwoLists}
-use Rattle.crews.proofs.Kept.{answer_kept}
+use Rattle.crews.proofs.Answered.{answer_kept}
 use Rattle.crews.proofs.Swapped.{crews_swap, edited_other, edited_swap}
 
 -- the marks of an edit's cell are the same after an edit of the other crew

@@ -10,7 +10,7 @@ use Rattle.map.specs.Answers.{Answer}
 use Rattle.map.specs.History.{Edit, Insert, Remove, cell_of, edit_answer, put, changed, edited}
 use Rattle.map.specs.Sound.{Sound}
 use Rattle.crews.specs.Crews.{TwoCrews}
-use Rattle.crews.proofs.Kept.{answer_kept}
+use Rattle.crews.proofs.Answered.{answer_kept}
 
 -- the crews are two either way round
 pub crews_swap : {m : Map} {a b : Edit} → TwoCrews m a b → TwoCrews m b a

@@ -27,7 +27,7 @@ use Rattle.map.specs.Sound.{Sound, TwoSolids}
 use Rattle.laws.proofs.Local.{Apart, Free, OneMore, half_other, sibling_other, anchors_free, more_free, apart_back}
 use Rattle.laws.proofs.Counted.{more_type_other}
 use Rattle.laws.proofs.Halves.{none_facets, half_live}
-use Rattle.laws.proofs.Ways.{way_other}
+use Rattle.laws.proofs.SiblingWays.{way_other}
 use Rattle.picture.specs.State.{State, next, map_with, state_of}
 use Rattle.picture.specs.Picture.{Pic, Wf, sib_word}
 use Rattle.picture.specs.Changes.{with_count}

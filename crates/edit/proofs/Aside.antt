@@ -21,7 +21,8 @@ use Rattle.map.specs.Cells.{Map, dimension_at, holds, facets_at}
 use Rattle.map.specs.Siblings.{is_half, marks_of, border}
 use Rattle.map.specs.Stars.{star, linked, group, halves_at, anchor, anchors}
 use Rattle.map.specs.Sound.{Sound}
-use Rattle.laws.proofs.Anchors.{star_has, group_in_star, halves_has}
+use Rattle.laws.proofs.Anchors.{star_has, halves_has}
+use Rattle.laws.proofs.StarGroups.{group_in_star}
 use Rattle.laws.proofs.Facets.{facet_size, facet_once}
 use Rattle.laws.proofs.Local.{Apart, picked_same, half_other, halves_listed, sibling_other, linked_other, groups_same}
 

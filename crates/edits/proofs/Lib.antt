@@ -7,3 +7,4 @@ pub mod Cut
 pub mod Runs
 pub mod Mornings
 pub mod Alone
+pub mod Joined

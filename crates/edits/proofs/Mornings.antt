@@ -1,22 +1,20 @@
 -- Lists of edits: one alone, two one after another, how many edits there are.
-use mathlib.Core.Path.{◌≡◌, refl, sym, ap, ◌∙◌, subst}
+use mathlib.Core.Path.{◌≡◌, refl, sym, ap, ◌∙◌}
 use mathlib.Core.Bool.{Bool, true, false, cond}
 use mathlib.Core.List.{List, [], ◌∷◌, ◌++◌}
-use Prim.Native.Nat.{ℕ, zero, suc, ◌+◌, ◌-◌, ◌*◌, ◌<◌, ◌≤◌}
+use Prim.Native.Nat.{ℕ, zero, suc, ◌+◌, ◌-◌, ◌*◌, ◌≤◌}
 use native.Mathlib.Decide.{ℕ_discrete}
 use native.Mathlib.Omega.{arith}
-use borrow.Author.Tests.{eq-eqb, ne_eqb}
+use borrow.Author.Tests.{ne_eqb}
 use lib.Dec.{eqb}
 use lib.ListN.{length, take, drop, length-take, drop_of_length-le}
 use lib.Seq.{take_all, take-append-le}
-use Rattle.lists.proofs.Bools.{clash}
 use Rattle.shapes.specs.Shapes.{shape}
 use Rattle.store.specs.Open.{is_mesh}
 use Rattle.map.specs.Cells.{licensed_body, Map}
 use Rattle.map.specs.History.{Edit, Insert, Remove, edit_answer, changed, edited}
-use Rattle.laws.proofs.Edits.{edited_changed, may_insert}
-use Rattle.map.specs.Morning as M
-use Rattle.map.specs.Morning.{Turn, Is, Not, insert_turn, remove_turn, turn, Reading, before, read_from, Morning, one_more, in_turn, morning}
+use Rattle.laws.proofs.Edits.{may_insert}
+use Rattle.map.specs.Morning.{Is, Not, insert_turn, remove_turn, turn, Reading, before, read_from, Morning, one_more, in_turn, morning}
 use Rattle.edits.specs.InTurn as T
 use Rattle.edits.specs.InTurn.{made_of, InTurn, ListEdited}
 use Rattle.map.specs.declared.Edits.{Edits}
@@ -117,7 +115,7 @@ after n x = record { made = n + x.made; refusal = x.refusal; map = x.map }
 after_one : (n : ℕ) (x : Morning) → after (suc n) x ≡ one_more (after n x)
 after_one n x = let e : suc n + x.made ≡ suc (n + x.made) = omega arith in rw e
 
-append_from : (a : List ℕ) (n : ℕ) (m : Map) (b : List ℕ) → n ≤ length a → (reading m (read_from n a)).refusal ≡ 0
+pub append_from : (a : List ℕ) (n : ℕ) (m : Map) (b : List ℕ) → n ≤ length a → (reading m (read_from n a)).refusal ≡ 0
     → reading m (read_from n (a ++ b)) ≡ after (reading m (read_from n a)).made (morning (reading m (read_from n a)).map b)
 unfolding read_from in_turn morning
 append_from [] zero m b h ok = let e : 0 + (morning m b).made ≡ (morning m b).made = omega arith in rw e
@@ -147,8 +145,3 @@ append_from (kind ∷ a) zero m b h ok = go (λ n m less q. append_from a n m b 
             ∙ sym (ap (λ (x : Morning). after x.made (morning x.map b)) first))))
         made (no f) =
             absurd (f (sym (ap (λ (x : Morning). x.refusal) (here ∙ turn_refused m e (read_from n a).edits (read_from n a).last (edit_answer m e).refusal refl f)) ∙ ok))
-
--- two lists joined: the second is made on what the first leaves, where the first does not stop
-pub morning_append : (m : Map) (a b : List ℕ) → (morning m a).refusal ≡ 0 → morning m (a ++ b) ≡ after (morning m a).made (morning (morning m a).map b)
-unfolding morning
-morning_append m a b ok = append_from a 0 m b (omega arith) ok

@@ -24,7 +24,10 @@ use Rattle.numbers.specs.declared.Caps.{Caps}
 use Rattle.map.specs.Cells.{Map, facets_at}
 use Rattle.map.specs.Siblings.{is_half, Half, marks_of, border}
 use Rattle.map.specs.Stars.{star, linked, group, halves_at, anchor, anchors}
-use Rattle.laws.proofs.Anchors.{half_facet, star_has, group_in_star, halves_has, has_halves, anchor_border, anchor_least, anchor_half, anchors_of, anchors_listed, anchors_ascend}
+use Rattle.laws.proofs.Anchors.{half_facet, star_has, halves_has, has_halves, anchor_border, anchor_least, anchors_of, anchors_ascend}
+use Rattle.laws.proofs.StarGroups.{group_in_star}
+use Rattle.laws.proofs.Anchored.{anchor_half}
+use Rattle.laws.proofs.AnchorsListed.{anchors_listed}
 use Rattle.laws.proofs.Halves.{half_live}
 use Rattle.picture.specs.State.{State, map_with, next}
 use Rattle.picture.specs.Picture.{Pic}

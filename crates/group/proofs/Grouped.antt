@@ -12,7 +12,8 @@ use Rattle.lists.proofs.Members.{has_at, at_has}
 use Rattle.map.specs.Cells.{Map}
 use Rattle.map.specs.Groups.{Joined, here, onward}
 use Rattle.map.specs.Stars.{star, linked, group}
-use Rattle.laws.proofs.Groups.{group_joined, joined_group, joined_first, joined_then, joined_back}
+use Rattle.laws.proofs.Groups.{group_joined, joined_first, joined_then, joined_back}
+use Rattle.laws.proofs.OneGroup.{joined_group}
 use Rattle.laws.proofs.Anchors.{linked_back, star_ascends, group_of_star}
 use Rattle.group.specs.Labels.{Relates, Labelled}
 

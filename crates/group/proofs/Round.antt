@@ -23,7 +23,9 @@ use Rattle.map.specs.Siblings.{is_half, Half, marks_of, siblings, walk}
 use Rattle.map.specs.Sound.{Sound}
 use Rattle.map.specs.Stars.{holders, linked}
 use Rattle.laws.proofs.Anchors.{half_facet, linked_facets, facets_linked}
-use Rattle.laws.proofs.Cycles.{sharers_has, has_sharers, siblings_live, walk_has, walk_not_before, walk_meets}
+use Rattle.laws.proofs.Cycles.{walk_has, walk_not_before}
+use Rattle.laws.proofs.Sharers.{sharers_has, has_sharers, siblings_live}
+use Rattle.laws.proofs.Bijection.{walk_meets}
 use Rattle.laws.proofs.Halves.{half_live}
 use Rattle.picture.specs.State.{State, map_with}
 use Rattle.picture.specs.Picture.{Pic}

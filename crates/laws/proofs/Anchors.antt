@@ -22,7 +22,7 @@ use Rattle.map.specs.Sound.{Fitting}
 use Rattle.map.specs.Siblings.{is_half, marks_of, border}
 use Rattle.map.specs.Stars.{star, linked, group, halves_at, anchor, anchors}
 use Rattle.lists.proofs.Keep.{keep_in, keep_out, first_either, map_has}
-use Rattle.laws.proofs.Groups.{group_self, group_inside, one_group}
+use Rattle.laws.proofs.Groups.{group_self}
 use Rattle.shapes.specs.Sizes.{no_facet}
 
 module _ (m : Map) where
@@ -101,16 +101,6 @@ module _ (m : Map) (d v : ℕ) where
   unfolding group
   group_of_star c e = group_self (linked m v) (star m d v) c e
 
-  -- the cells of a group are cells of its star
-  pub group_in_star : (a b : ℕ) → has b (group m d v a) ≡ true → has b (star m d v) ≡ true
-  unfolding group
-  group_in_star a b e = group_inside (linked m v) (star m d v) a b e
-
-  -- each cell of a star is in exactly one group
-  pub star_one_group : (a b : ℕ) → has b (group m d v a) ≡ true → group m d v b ≡ group m d v a
-  unfolding group
-  star_one_group a b e = one_group (linked m v) (star m d v) (linked_back m v) star_ascends a b e
-
 module _ (m : Map) (v : ℕ) (g : List ℕ) where
   -- of a group's half-facets that hold the mark each is a half-facet of a cell of the group and holds the mark
   pub halves_has : (h : ℕ) → has h (halves_at m v g) ≡ true
@@ -158,32 +148,10 @@ module _ (m : Map) (v : ℕ) (g : List ℕ) where
       (first_either (first 0 (halves_at m v g)) (keep (border m) (halves_at m v g)))
 
 module _ (m : Map) (d v : ℕ) where
-  -- the anchor of the group of a cell is one of the half-facets of the group that hold the mark
-  pub anchor_half : Fitting m → (c : ℕ) → has c (star m d v) ≡ true → has (anchor m v (group m d v c)) (halves_at m v (group m d v c)) ≡ true
-  anchor_half fit c e =
-      let cell = star_has m d v c e in
-      let half = corner_half m fit v c cell.2 cell.0 in
-      anchor_in m v (group m d v c) half.0
-      (has_halves m v (group m d v c) half.0 half.4 (rw half.1 (group_of_star m d v c e)) half.2 half.3)
-
-  -- an anchor is a half-facet of its group and holds the mark
-  pub anchor_holds : Fitting m → (c : ℕ) → has c (star m d v) ≡ true
-      → (has (anchor m v (group m d v c) / 8) (group m d v c) ≡ true) × (is_half m (anchor m v (group m d v c)) ≡ true)
-      × (has v (marks_of m (anchor m v (group m d v c))) ≡ true)
-  anchor_holds fit c e = let r = halves_has m v _ _ (anchor_half fit c e) in (r.1, r.2, r.3)
-
   -- each in the list is the anchor of the group of its cell, a cell of the star
   pub anchors_of : (h : ℕ) → has h (anchors m d v) ≡ true → (has (h / 8) (star m d v) ≡ true) × (h ≡ anchor m v (group m d v (h / 8)))
   unfolding anchors
   anchors_of h e = let r = select_out _ _ h e in (and_left _ _ r.1, eqb-true h _ (and_right (has (h / 8) (star m d v)) _ r.1))
-
-  -- each group has its anchor in the list
-  pub anchors_listed : Fitting m → (c : ℕ) → has c (star m d v) ≡ true → has (anchor m v (group m d v c)) (anchors m d v) ≡ true
-  unfolding anchors
-  anchors_listed fit c e =
-      let h = anchor m v (group m d v c) in
-      let r = halves_has m v (group m d v c) h (anchor_half fit c e) in
-      select_in _ _ h r.0 (and_both _ _ (group_in_star m d v c (h / 8) r.1) (eq-eqb h _ (rw (star_one_group m d v c (h / 8) r.1))))
 
   -- each group has only one anchor in the list
   pub anchors_one : (h k : ℕ) → has h (anchors m d v) ≡ true → has k (anchors m d v) ≡ true

@@ -20,7 +20,7 @@ use Rattle.map.specs.Stars.{holders}
 use Rattle.map.specs.History.{Edit, Insert, Remove, edit_body, edit_answer, changed}
 use Rattle.map.specs.Sound.{Sound}
 use Rattle.lists.proofs.Alike.{one_or_other, select_alike}
-use Rattle.laws.proofs.Cycles.{sharers_has}
+use Rattle.laws.proofs.Sharers.{sharers_has}
 use Rattle.laws.proofs.Edits.{MayInsert, MayRemove, may_insert, may_remove, typed_coded}
 use Rattle.laws.proofs.Local.{OneMore, picked, picked_same, sharers_at, more_insert, more_remove}
 

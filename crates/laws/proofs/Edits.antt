@@ -286,22 +286,3 @@ module _ (m : Map) (s : Sound m) where
   pub sound_changed : (e : Edit) → (edit_answer m e).refusal ≡ 0 → Sound (changed m e)
   sound_changed (Insert c x) a = sound_insert c x (may_insert m c x a)
   sound_changed (Remove c) a = sound_remove c (may_remove m c a)
-
-  -- each edit keeps it sound, accepted or refused
-  pub sound_edited : (e : Edit) → Sound (edited m e)
-  unfolding edited
-  sound_edited e = go (eqb (edit_answer m e).refusal 0) refl
-    where
-      go : (b : Bool) → eqb (edit_answer m e).refusal 0 ≡ b → Sound (cond b (changed m e) m)
-      go true a = sound_changed e (eqb-true _ 0 a)
-      go false a = s
-
--- a whole history keeps it sound
-pub sound_history : (m : Map) (es : List Edit) → Sound m → Sound (history m es)
-unfolding history
-sound_history m [] s = s
-sound_history m (e ∷ es) s = sound_history (edited m e) es (sound_edited m s e)
-
--- every mesh that edits leave from a formatted one is sound
-pub sound_mesh : (caps : Caps) (es : List Edit) → Sound (history (empty caps) es)
-sound_mesh caps es = sound_history _ es (sound_empty caps)

@@ -21,7 +21,7 @@ use Rattle.map.specs.Cells.{Map, dimension_at, holds, facets_at}
 use Rattle.map.specs.Siblings.{Half, is_half, marks_of, sharers, siblings}
 use Rattle.map.specs.Sound.{Sound}
 use Rattle.laws.proofs.Anchors.{facet_mark}
-use Rattle.laws.proofs.Cycles.{sharers_has}
+use Rattle.laws.proofs.Sharers.{sharers_has}
 
 -- a cell has as many facets as its type
 pub facets_count : (m : Map) (c : ℕ) → length (facets_at m c) ≡ length (shape (m.at c).code).facets

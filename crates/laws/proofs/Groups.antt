@@ -10,9 +10,9 @@ use lib.Dec.{eqb}
 use lib.ListN.{length}
 use Rattle.lists.specs.Lists.{has, any, keep}
 use Rattle.lists.specs.Ascending.{Ascending}
-use Rattle.lists.proofs.Bools.{or_cases, or_left, or_right, same_test}
+use Rattle.lists.proofs.Bools.{or_cases, or_left, or_right}
 use Rattle.lists.proofs.Members.{any_has, has_any}
-use Rattle.lists.proofs.Order.{keep_ascends, asc_same}
+use Rattle.lists.proofs.Order.{keep_ascends}
 use Rattle.map.specs.Groups.{Joined, here, onward, grow, grown, group_of}
 use Rattle.lists.proofs.Keep.{keep_in, keep_out, keep_size, keep_grow}
 
@@ -76,10 +76,6 @@ module _ (link : ℕ → ℕ → Bool) (s : List ℕ) where
       grown_all (Joined link s a) (λ b c r l h. joined_then r (onward (joined_last r) l (here h))) (length s) (keep (λ b. eqb b a) s)
       (λ b h. let r = keep_out (λ b. eqb b a) s b h in rw (← eqb-true b a r.0) (here r.1))
 
-  -- the cells of a group are cells of the list
-  pub group_inside : (a b : ℕ) → has b (group_of link s a) ≡ true → has b s ≡ true
-  group_inside a b e = joined_last (group_joined a b e)
-
   -- a group is closed under links
   pub group_closed : (a b c : ℕ) → has b (group_of link s a) ≡ true → has c s ≡ true → link b c ≡ true → has c (group_of link s a) ≡ true
   unfolding group_of grow
@@ -96,14 +92,6 @@ module _ (link : ℕ → ℕ → Bool) (s : List ℕ) where
       go zero g e = e
       go (suc n) g e = go n (grow link s g) (keep_in (reached g) s a (or_left _ _ e) h)
 
-  -- nothing that links lead to is missing in a group
-  pub joined_group : (a b : ℕ) → Joined link s a b → has b (group_of link s a) ≡ true
-  joined_group a b r = go r (group_self a (joined_first r))
-    where
-      go : {c : ℕ} → Joined link s c b → has c (group_of link s a) ≡ true → has b (group_of link s a) ≡ true
-      go (here h) e = e
-      go (onward {a = c} {b = d} h l q) e = go q (group_closed a c d e (joined_first q) l)
-
   -- a group of an ascending list ascends
   pub group_ascends : (a : ℕ) → Ascending s → Ascending (group_of link s a)
   unfolding group_of grown grow
@@ -118,11 +106,3 @@ module _ (link : ℕ → ℕ → Bool) (s : List ℕ) where
     pub joined_back : (a b : ℕ) → Joined link s a b → Joined link s b a
     joined_back a b (here h) = here h
     joined_back a c (onward {b} h l r) = joined_then (joined_back b c r) (onward (joined_first r) (symmetric a b l) (here h))
-
-    -- each cell is in exactly one group: the group of each cell of a group is that group
-    pub one_group : Ascending s → (a b : ℕ) → has b (group_of link s a) ≡ true → group_of link s b ≡ group_of link s a
-    one_group up a b e =
-        asc_same (group_of link s b) (group_of link s a) (group_ascends b up) (group_ascends a up)
-        (λ v. same_test (has v (group_of link s b)) (has v (group_of link s a))
-        (λ h. joined_group a v (joined_then (group_joined a b e) (group_joined b v h)))
-        (λ h. joined_group b v (joined_then (joined_back a b (group_joined a b e)) (group_joined a v h))))

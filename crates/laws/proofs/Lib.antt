@@ -11,3 +11,15 @@ pub mod Counted
 pub mod Facets
 pub mod Solids
 pub mod Ways
+pub mod OneGroup
+pub mod StarGroups
+pub mod Anchored
+pub mod AnchorsListed
+pub mod Sharers
+pub mod Bijection
+pub mod Histories
+pub mod ThirdSolids
+pub mod FreeChanged
+pub mod AnyOrder
+pub mod Builds
+pub mod SiblingWays

@@ -20,7 +20,7 @@ use Rattle.map.specs.Cells.{Body, Map, no_cell, dimension_at, holds, facets_at}
 use Rattle.map.specs.Siblings.{is_half, marks_of, sharers, siblings, sibling, border}
 use Rattle.map.specs.Groups.{grow, grown, group_of}
 use Rattle.map.specs.Stars.{holders, star, linked, group, halves_at, anchor, anchors}
-use Rattle.map.specs.History.{Edit, Insert, Remove, cell_of, edit_body, edit_answer, put, changed}
+use Rattle.map.specs.History.{Edit, Insert, Remove, cell_of, edit_answer, put, changed}
 use Rattle.map.specs.Sound.{Sound}
 use Rattle.lists.proofs.Alike.{one_or_other, keep_same, any_same, map_at, select_alike, and_false}
 use Rattle.laws.proofs.Anchors.{star_has, halves_has}
@@ -274,9 +274,3 @@ module _ (m : Map) (s : Sound m) where
   pub apart_changed : (e : Edit) → (edit_answer m e).refusal ≡ 0 → Apart m (changed m e) (cell_of e)
   apart_changed (Insert c x) a = apart_insert m s c x (may_insert m c x a)
   apart_changed (Remove c) a = apart_remove m s c (may_remove m c a)
-
-  -- and changes nothing at a mark that its cell has not
-  pub free_changed : (e : Edit) → (edit_answer m e).refusal ≡ 0 → (v : ℕ) → has v (edit_body m e).marks ≡ false
-      → Free m (changed m e) (cell_of e) v
-  free_changed (Insert c x) a v e = more_free _ _ c _ (more_insert m s c x (may_insert m c x a)) v e
-  free_changed (Remove c) a v e = let f = more_free _ _ c _ (more_remove m s c (may_remove m c a)) v e in (f.1, f.0)

@@ -8,7 +8,7 @@ use lib.Dec.{eqb}
 use Rattle.lists.specs.Lists.{has, repeats, all}
 use Rattle.lists.proofs.Bools.{clash, or_left}
 use Rattle.numbers.specs.declared.Caps.{Caps}
-use Rattle.map.specs.Cells.{Body, Live, Map, body_in, map_of}
+use Rattle.map.specs.Cells.{Body, Live, body_in, map_of}
 use Rattle.map.specs.Afresh.{Shuffled, none, same, swapped, then, numbers, Distinct}
 use Rattle.lists.proofs.Counts.{neither, eqb_swap}
 
@@ -97,7 +97,3 @@ module _ (caps : Caps) (a b : List Live) where
   -- a shuffled list gives the same map
   pub order_free : Shuffled a b → Distinct a → map_of caps a ≡ map_of caps b
   order_free s d = same_bodies (shuffled_same s d)
-
-  -- and so every answer is the same
-  pub order_free_answer : {A : Type 0} (f : Map → A) → Shuffled a b → Distinct a → f (map_of caps a) ≡ f (map_of caps b)
-  order_free_answer f s d = ap f (order_free s d)

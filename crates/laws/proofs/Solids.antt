@@ -1,18 +1,18 @@
 -- Under edition 2 every accepted edit leaves each face between two solids at most.
 use mathlib.Core.Path.{◌≡◌, refl, sym, ap, ◌∙◌}
-use mathlib.Core.Bool.{Bool, true, false, cond, ◌&&◌}
+use mathlib.Core.Bool.{true, false}
 use mathlib.Core.List.{List, [], ◌∷◌, map}
 use mathlib.Core.Logic.{⊎_elim, ◌⊎◌, inl, inr}
-use Prim.Native.Nat.{ℕ, zero, suc, ◌/◌, ◌%◌, ◌<◌, ◌≤◌}
+use Prim.Native.Nat.{ℕ, suc, ◌/◌, ◌%◌, ◌<◌, ◌≤◌}
 use native.Mathlib.Omega.{arith}
 use borrow.Author.Tests.{eq-eqb, eqb-true, eqb-false, leb-true, leb-false, ltb-true}
 use lib.Dec.{eqb, leb}
-use lib.ListN.{length, get_or, take, drop, length-map}
+use lib.ListN.{length, get_or, length-map}
 use Rattle.lists.specs.Lists.{has, any, repeats, same_set}
-use Rattle.lists.proofs.Bools.{clash, either, not_true_false, and_left, and_right, and_both, or_left, or_right, same_test}
+use Rattle.lists.proofs.Bools.{clash, either, not_true_false, and_left, and_right, and_both, or_left, or_right}
 use Rattle.lists.proofs.Members.{any_at, at_any, at_has}
-use Rattle.lists.proofs.Sets.{same_refl, same_sym, same_trans, has_same}
-use Rattle.lists.proofs.Sized.{distinct_fewer, distinct_less, same_size, map_once}
+use Rattle.lists.proofs.Sets.{same_refl, same_sym, same_trans}
+use Rattle.lists.proofs.Sized.{distinct_fewer, distinct_less}
 use Rattle.lists.proofs.Order.{select_ascends, asc_once}
 use Rattle.lists.proofs.Select.{select_in, select_out}
 use Rattle.lists.proofs.Keep.{map_has}
@@ -22,20 +22,20 @@ use Rattle.numbers.specs.Editions.{second_edition}
 use Rattle.numbers.specs.declared.Caps.{Caps}
 use Rattle.shapes.specs.Shapes.{shape}
 use Rattle.shapes.specs.Facts.{dimension_of}
-use Rattle.map.specs.Cells.{Body, licensed_body, Map, no_cell, map_of, body_in, dimension_at, sets_of, facets_at}
+use Rattle.map.specs.Cells.{Body, Map, no_cell, map_of, body_in, dimension_at, sets_of, facets_at}
 use Rattle.map.specs.Siblings.{Half, is_half, marks_of, sharers, siblings}
 use Rattle.map.specs.Answers.{third}
-use Rattle.map.specs.History.{empty, Edit, Insert, Remove, edit_answer, put, changed, edited, history, build, build_from}
+use Rattle.map.specs.History.{empty, Edit, Insert, Remove, edit_answer, put, changed}
 use Rattle.map.specs.Sound.{Sound, TwoSolids, solids_on}
-use Rattle.laws.proofs.Cycles.{sharers_has, has_sharers, sharers_ascend, sharers_same}
+use Rattle.laws.proofs.Sharers.{sharers_has, has_sharers, sharers_ascend, sharers_same}
 use Rattle.laws.proofs.Halves.{none_facets, no_half_lem}
-use Rattle.laws.proofs.Facets.{facet_half, same_half, facet_size, facet_once, sharers_dimension, siblings_dimension}
-use Rattle.laws.proofs.Edits.{MayInsert, MayRemove, may_insert, may_remove, put_all, sound_empty, sound_insert, sound_changed, sound_edited}
+use Rattle.laws.proofs.Facets.{facet_half, same_half, sharers_dimension, siblings_dimension}
+use Rattle.laws.proofs.Edits.{MayInsert, MayRemove, may_insert, may_remove, put_all, sound_insert}
 use Rattle.laws.proofs.Local.{OneMore, half_other, siblings_other, more_insert}
 use Rattle.laws.proofs.Counted.{sharers_less}
 
 -- no sharer stands twice
-sharers_once : (m : Map) (set : List ℕ) → repeats (sharers m set) ≡ false
+pub sharers_once : (m : Map) (set : List ℕ) → repeats (sharers m set) ≡ false
 sharers_once m set = asc_once _ (sharers_ascend m set)
 
 module _ (m : Map) (x : Body) where
@@ -202,51 +202,8 @@ module _ (m : Map) (s : Sound m) (t : TwoSolids m) where
   two_changed (Insert c x) a = two_insert c x (may_insert m c x a)
   two_changed (Remove c) a = two_remove c (may_remove m c a)
 
-  -- each edit does, accepted or refused
-  pub two_edited : (e : Edit) → TwoSolids (edited m e)
-  unfolding edited
-  two_edited e = go (eqb (edit_answer m e).refusal 0) refl
-    where
-      go : (b : Bool) → eqb (edit_answer m e).refusal 0 ≡ b → TwoSolids (cond b (changed m e) m)
-      go true a = two_changed e (eqb-true _ 0 a)
-      go false a = t
-
--- a whole history does
-pub two_history : (m : Map) (es : List Edit) → Sound m → TwoSolids m → TwoSolids (history m es)
-unfolding history
-two_history m [] s t = t
-two_history m (e ∷ es) s t = two_history (edited m e) es (sound_edited m s e) (two_edited m s t e)
-
--- every mesh that edits leave from a formatted one has two solids at most
-pub two_mesh : (caps : Caps) (es : List Edit) → TwoSolids (history (empty caps) es)
-two_mesh caps es = two_history _ es (sound_empty caps) (two_empty caps)
-
--- a build leaves a sound map with two solids at most
-build_leaves : (n place : ℕ) (m : Map) (words : List ℕ) → Sound m → TwoSolids m
-    → Sound (build_from n place m words).map × TwoSolids (build_from n place m words).map
-unfolding build_from
-build_leaves zero place m words s t = (s, t)
-build_leaves (suc n) place m [] s t = (s, t)
-build_leaves (suc n) place m (c ∷ []) s t = (sound_empty m.caps, two_empty m.caps)
-build_leaves (suc n) place m (c ∷ k ∷ []) s t = (sound_empty m.caps, two_empty m.caps)
-build_leaves (suc n) place m (c ∷ k ∷ licence ∷ rest) s t =
-    let e : Edit = Insert c (licensed_body k licence (take (shape k).marks rest)) in
-    ⊎_elim (λ (ok : eqb (edit_answer m e).refusal 0 ≡ true). let a = eqb-true _ 0 ok in
-    rw (ok, build_from) (build_leaves n (suc place) (changed m e) (drop (shape k).marks rest) (sound_changed m s e a) (two_changed m s t e a)))
-    (λ (no : eqb (edit_answer m e).refusal 0 ≡ false). rw (no, build_from) (sound_empty m.caps, two_empty m.caps))
-    (either (eqb (edit_answer m e).refusal 0))
-
-module _ (caps : Caps) (words : List ℕ) where
-  pub sound_build : Sound (build caps words).map
-  unfolding build
-  sound_build = (build_leaves (length words) 0 (empty caps) words (sound_empty caps) (two_empty caps)).0
-
-  pub two_build : TwoSolids (build caps words).map
-  unfolding build
-  two_build = (build_leaves (length words) 0 (empty caps) words (sound_empty caps) (two_empty caps)).1
-
 -- the cell of a half-facet
-abbrev cell : ℕ → ℕ
+abbrev pub cell : ℕ → ℕ
 cell h = h / 8
 
 module _ (m : Map) (face : List ℕ) where
@@ -260,16 +217,16 @@ module _ (m : Map) (face : List ℕ) where
       (half_of c k.0, has_sharers m face _ q.0 (rw q.2 k.2), q.1, eqb-true _ 3 (and_left _ _ r.1))
 
   -- so among the cells of the sharers is each solid on the face
-  solids_cells : (c : ℕ) → has c (solids_on m face) ≡ true → has c (map cell (sharers m face)) ≡ true
+  pub solids_cells : (c : ℕ) → has c (solids_on m face) ≡ true → has c (map cell (sharers m face)) ≡ true
   solids_cells c e = let k = solid_sharer c e in rw k.2 at (map_has cell (sharers m face) k.0 k.1)
 
-  solids_once : repeats (solids_on m face) ≡ false
+  pub solids_once : repeats (solids_on m face) ≡ false
   unfolding solids_on
   solids_once = asc_once _ (select_ascends _ m.caps.cells)
 
   module _ (o : Sound m) (r : repeats face ≡ false) (solid : dimension_of (length face) ≡ 3) where
     -- for a face of a solid there are no others
-    cells_solids : (c : ℕ) → has c (map cell (sharers m face)) ≡ true → has c (solids_on m face) ≡ true
+    pub cells_solids : (c : ℕ) → has c (map cell (sharers m face)) ≡ true → has c (solids_on m face) ≡ true
     unfolding solids_on is_half marks_of
     cells_solids c e =
         let k = map_at cell (sharers m face) c e in
@@ -280,19 +237,6 @@ module _ (m : Map) (face : List ℕ) where
         rw (← k.2)
         (select_in _ m.caps.cells (h / 8) (omega (arith, y.0.below))
         (and_both _ _ (eq-eqb _ 3 (sharers_dimension m o face r h here ∙ solid)) has-face))
-
-    -- "a third solid on a face": a face has as many sharers as there are solids on it
-    pub solids_count : length (sharers m face) ≡ length (solids_on m face)
-    solids_count =
-        sym (length-map (sharers m face) cell)
-        ∙ same_size _ _ (map_once cell (sharers m face) (sharers_once m face) one) solids_once
-        (has_same _ _ (λ c. same_test _ _ (cells_solids c) (solids_cells c)))
-      where
-        one : (h k : ℕ) → has h (sharers m face) ≡ true → has k (sharers m face) ≡ true → h / 8 ≡ k / 8 → h ≡ k
-        one h k a b z =
-            let x = sharers_has m face h a in
-            let y = sharers_has m face k b in
-            same_half m o h k x.0 y.0 z (same_trans _ face _ (same_sym face _ x.1) y.1)
 
 -- "a face may lie between two solids at most"
 pub two_solids : (m : Map) → TwoSolids m → m.caps.edition ≡ second_edition → (face : List ℕ) → length (solids_on m face) ≤ 2
@@ -312,33 +256,3 @@ two_solids m t edition face = go (solids_on m face) refl
           ap length (sharers_same m face _ y.1),
           t.most edition k.0 y.0 (rw k.2 k.3),
         )
-
--- a third solid is one with a face on which two solids are already
-pub third_solids : (m : Map) → Sound m → (x : Body) → length x.marks ≡ (shape x.code).marks → repeats x.marks ≡ false
-    → third m x
-    ≡ (eqb m.caps.edition second_edition
-    && (eqb (shape x.code).dimension 3 && any (λ (face : List ℕ). leb 2 (length (solids_on m face))) (sets_of x.code x.marks)))
-unfolding third facets_at dimension_at
-third_solids m o x fit r = ap (λ (t : Bool). eqb m.caps.edition second_edition && t) (go (eqb (shape x.code).dimension 3) refl)
-  where
-    faces : List (List ℕ)
-    faces = sets_of x.code x.marks
-
-    shared : List ℕ → Bool
-    shared face = leb 2 (length (sharers m face))
-
-    on : List ℕ → Bool
-    on face = leb 2 (length (solids_on m face))
-
-    count : (shape x.code).dimension ≡ 3 → (f : ℕ) → f < length faces → shared (get_or faces f []) ≡ on (get_or faces f [])
-    count d f l =
-        let alone : Map = part m (λ k. x) in
-        ap (leb 2) (solids_count m (get_or faces f []) o (facet_once alone 0 f l fit r) (facet_size alone 0 f l ∙ d))
-
-    go : (b : Bool) → eqb (shape x.code).dimension 3 ≡ b → b && any shared faces ≡ b && any on faces
-    go false e = refl
-    go true e =
-        let d = eqb-true _ 3 e in
-        same_test (any shared faces) (any on faces)
-        (λ a. let k = any_at shared faces [] a in at_any on faces [] k.0 k.1 (sym (count d k.0 k.1) ∙ k.2))
-        (λ a. let k = any_at on faces [] a in at_any shared faces [] k.0 k.1 (count d k.0 k.1 ∙ k.2))

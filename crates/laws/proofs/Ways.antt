@@ -2,30 +2,25 @@
 use mathlib.Core.Path.{◌≡◌, refl, sym, ap, ◌∙◌}
 use mathlib.Core.Bool.{Bool, true, false, cond}
 use mathlib.Core.List.{List, [], ◌∷◌, ◌++◌, reverse, reverse-cons, reverse-append, reverse-reverse, append-nil}
-use Prim.Native.Nat.{ℕ, zero, suc, ◌+◌, ◌-◌, ◌/◌, ◌%◌, ◌<◌, ◌≤◌}
+use Prim.Native.Nat.{ℕ, zero, suc, ◌+◌, ◌-◌, ◌%◌, ◌<◌, ◌≤◌}
 use native.Mathlib.Decide.{dec_lt}
 use native.Mathlib.Omega.{arith}
-use borrow.Author.Tests.{eq-eqb, ne_eqb, eqb-true, ltb-true}
+use borrow.Author.Tests.{eq-eqb, ne_eqb, eqb-true}
 use lib.Dec.{eqb}
 use lib.ListN.{length, get_or, take, drop, length-append, length-drop, length-reverse, take-append-drop, get_or-append}
 use lib.Seq.{length-take-le, take_at, drop_at, get_or_at, get_or-append-add, get_or-drop, get_or-take}
-use Rattle.lists.specs.Lists.{any, same, same_set, repeats, list_of, steps}
+use Rattle.lists.specs.Lists.{same, repeats, list_of}
 use Rattle.lists.proofs.Bools.{clash, not_true_false, and_left, and_right, same_test}
-use Rattle.lists.proofs.Members.{any_at, at_any, once}
+use Rattle.lists.proofs.Members.{any_at, once}
 use Rattle.lists.proofs.Counts.{eqb_swap}
 use Rattle.lists.proofs.Fill.{length_list_of}
 use Rattle.lists.proofs.Mapped.{list_at}
 use Rattle.lists.proofs.Through.{one_there}
-use Rattle.lists.proofs.Sized.{same_size}
 use Rattle.map.specs.declared.Way.{Way}
 use Rattle.map.specs.declared.Way.TheVariants.{Lone, Same, Opposite, Neither}
-use Rattle.map.specs.Cells.{Map, facets_at}
-use Rattle.map.specs.Siblings.{Half, is_half, marks_of, siblings, sibling, walk, border}
+use Rattle.map.specs.Cells.{Map}
+use Rattle.map.specs.Siblings.{marks_of, sibling, border}
 use Rattle.map.specs.Ways.{way_number, turned, rotation, runs, direction, between, way}
-use Rattle.map.specs.Sound.{Sound}
-use Rattle.laws.proofs.Cycles.{siblings_same, sibling_has, sibling_live, sibling_set, walk_returns, border_self, self_border}
-use Rattle.laws.proofs.Local.{Apart, half_other, sibling_other}
-use Rattle.laws.proofs.Facets.{facet_once}
 
 -- lists that are told to be the same are
 pub same_is : (a b : List ℕ) → same a b ≡ true → a ≡ b
@@ -176,18 +171,6 @@ pub border_lone : (m : Map) (h : ℕ) → border m h ≡ true → way m h ≡ Lo
 unfolding way
 border_lone m h e = ap (λ (b : Bool). cond b Lone (between m h (sibling m h))) e
 
--- a half-facet that leads to itself is lone, any other says the direction of the two
-pub way_by : (m : Map) (h : ℕ) → Half m h → (x : ℕ) → x ≡ sibling m h → cond (eqb h x) Lone (between m h x) ≡ way m h
-unfolding way
-way_by m h y x e = rw e (go (eqb h (sibling m h)) refl (border m h) refl)
-  where
-    go : (p : Bool) → eqb h (sibling m h) ≡ p → (q : Bool) → border m h ≡ q
-        → cond p Lone (between m h (sibling m h)) ≡ cond q Lone (between m h (sibling m h))
-    go true a true b = refl
-    go true a false b = absurd (clash (self_border m h y (sym (eqb-true _ _ a))) b)
-    go false a true b = absurd (clash (eq-eqb h (sibling m h) (sym (border_self m h y b))) a)
-    go false a false b = refl
-
 -- a face's word says which of the two lists is a rotation
 module _ (f g : ℕ) (a b : List ℕ) (face : 3 ≤ length a) where
   face_runs : direction f a g b ≡ runs (rotation a b) (rotation a (reverse b))
@@ -272,33 +255,3 @@ edge_one a b distinct two e =
     let at : get_or b 0 0 ≡ get_or b (length b - 1 - 0) 0 = ap (λ (l : List ℕ). get_or l 0 0) turn ∙ reverse_at b 0 (omega arith) in
     let one : 0 ≡ length b - 1 - 0 = once b distinct 0 (length b - 1 - 0) (omega arith) (omega arith) at in
     omega (arith, one))
-
-module _ (m : Map) (o : Sound m) where
-  marks_once : (h : ℕ) → Half m h → repeats (marks_of m h) ≡ false
-  unfolding marks_of is_half
-  marks_once h x = facet_once m (h / 8) (h % 8) (ltb-true _ _ x.facet) (o.fitting (h / 8)) (o.distinct (h / 8))
-
-  -- in a set of two both say one word
-  pub way_two : (h : ℕ) → Half m h → length (siblings m h) ≡ 2 → way m (sibling m h) ≡ way m h
-  unfolding way between border walk steps
-  way_two h x two =
-      let k : ℕ = sibling m h in
-      let sets : siblings m k ≡ siblings m h = siblings_same m h k (sibling_has m h x) in
-      let back : sibling m k ≡ h = rw two at (walk_returns m h x) in
-      let size = same_size (marks_of m h) (marks_of m k) (marks_once h x) (marks_once k (sibling_live m h x)) (sibling_set m h x) in
-      rw (sets, back, direction_swap (h % 8) (k % 8) (marks_of m h) (marks_of m k) size)
-
--- a half-facet of another cell whose set no facet of the cell has, in neither map, has the same word
-pub way_other : (m m' : Map) (c : ℕ) → Apart m m' c → (h : ℕ) → (h / 8 ≡ c → ⊥) → Half m h
-    → any (same_set (marks_of m h)) (facets_at m c) ≡ false → any (same_set (marks_of m h)) (facets_at m' c) ≡ false → way m' h ≡ way m h
-unfolding way between is_half marks_of
-way_other m m' c a h n x e e' =
-    let s = sibling_other m m' c a h n e e' in
-    rw (s.0, s.1, (half_other m m' c a h n).1, (half_other m m' c a (sibling m h) elsewhere).1)
-  where
-    elsewhere : sibling m h / 8 ≡ c → ⊥
-    elsewhere z =
-        let y = sibling_live m h x in
-        clash
-        (rw z at (at_any (same_set (marks_of m h)) (facets_at m (sibling m h / 8)) [] (sibling m h % 8) (ltb-true _ _ y.facet) (sibling_set m h x)))
-        e

@@ -13,7 +13,7 @@ use Rattle.map.specs.Cells.{Map}
 use Rattle.map.specs.Siblings.{is_half, Half, marks_of, sharers, siblings, sibling}
 use Rattle.map.specs.Ways.{way_number, way}
 use Rattle.map.specs.Sound.{Sound}
-use Rattle.laws.proofs.Cycles.{sharers_has, has_sharers, sharers_same}
+use Rattle.laws.proofs.Sharers.{sharers_has, has_sharers, sharers_same}
 use Rattle.laws.proofs.Halves.{half_live}
 use Rattle.picture.specs.State.{State, map_with, state_of}
 use Rattle.picture.specs.Picture.{sib_word}

@@ -5,3 +5,4 @@ pub mod Trying
 pub mod Checking
 pub mod Exactly
 pub mod One
+pub mod Says

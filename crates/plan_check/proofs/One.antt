@@ -1,23 +1,18 @@
 -- Nothing else fits: on well-formed memory the promise of a check leaves one answer and one second memory.
 use mathlib.Core.Path.{◌≡◌, refl, sym, ap, ◌∙◌}
 use mathlib.Core.Bool.{Bool, true, false, cond, not}
-use mathlib.Core.List.{List, [], ◌∷◌}
+use mathlib.Core.List.{List, []}
 use Prim.Native.Nat.{ℕ, ◌<◌}
 use native.Mathlib.Decide.{ℕ_discrete}
 use native.Mathlib.Omega.{arith}
 use lib.Dec.{eqb, ltb}
 use lib.ListN.{length}
-use Rattle.lists.specs.Lists.{first}
 use Rattle.numbers.specs.Room.{room}
 use Rattle.words.specs.Words.{Only}
 use Rattle.map.specs.Cells.{Map}
 use Rattle.map.specs.Answers.{Answer, ◌when◌, answer}
 use Rattle.map.specs.Morning.{morning}
-use Rattle.map.specs.Says.{given, refused, verdict_says}
-use Rattle.map.specs.declared.Verdict.{Verdict}
-use Rattle.map.specs.declared.Verdict.TheVariants as Verdict'
-use Rattle.map.proofs.Says.{verdict_one}
-use Rattle.map.proofs.Refusals.{number_some}
+use Rattle.map.specs.Says.{given, refused}
 use Rattle.picture.specs.Picture.{Wf}
 use Rattle.picture.proofs.Put.{wf_alone}
 use Rattle.edits.proofs.Cut.{room_of, head_room}
@@ -28,25 +23,8 @@ use Rattle.wanted.specs.Plans.{plan_checks}
 use Rattle.plan_check.specs.Checked.{planned_says, PlanChecked}
 use Rattle.plan_check.specs.declared.Planned.{Planned}
 use Rattle.plan_check.specs.declared.Planned.TheVariants.{Yes, Wrong, Refused}
+use Rattle.plan_check.proofs.Says.{planned_one}
 use Rattle.plan_check.proofs.Checking.{plan_refused}
-
--- a refusal of the check is a verdict's
-of_verdict : Verdict → Planned
-of_verdict Verdict'.Accepted = Yes
-of_verdict (Verdict'.Refused why) = Refused why
-
--- an answer of the definition is that of one value alone
-pub planned_one : (x y : Planned) → planned_says x ≡ planned_says y → x ≡ y
-unfolding planned_says given refused verdict_says of_verdict first
-planned_one Yes Yes e = refl
-planned_one Yes (Wrong n) e = absurd (omega (arith, ap (λ (a : Answer). a.refusal) e))
-planned_one Yes (Refused why) e = absurd (omega (arith, number_some why, ap (λ (a : Answer). a.refusal) e))
-planned_one (Wrong n) Yes e = absurd (omega (arith, ap (λ (a : Answer). a.refusal) e))
-planned_one (Wrong n) (Wrong k) e = ap Wrong (ap (λ (a : Answer). first 0 a.values) e)
-planned_one (Wrong n) (Refused why) e = absurd (omega (arith, ap (λ (a : Answer). length a.values) e))
-planned_one (Refused why) Yes e = absurd (omega (arith, number_some why, ap (λ (a : Answer). a.refusal) e))
-planned_one (Refused why) (Wrong n) e = absurd (omega (arith, ap (λ (a : Answer). length a.values) e))
-planned_one (Refused why) (Refused other) e = ap of_verdict (verdict_one (Verdict'.Refused why) (Verdict'.Refused other) e)
 
 -- the checks before 24 give no value
 checks_values : (m : Map) (words : ℕ) (wanted : List ℕ) → answer (plan_checks m words wanted) [] ≡ refused_with (answer (plan_checks m words wanted) []).refusal

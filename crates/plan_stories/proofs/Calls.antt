@@ -34,7 +34,8 @@ use Rattle.planner.specs.declared.Proposal.TheVariants as Proposal'
 use Rattle.plan_check.specs.Checked.{planned_says, PlanChecked}
 use Rattle.plan_check.specs.declared.Planned.{Planned}
 use Rattle.plan_check.specs.declared.Planned.TheVariants as Planned'
-use Rattle.plan_stories.proofs.Passes.{wanted_whole, plan_right_lem}
+use Rattle.plan_stories.proofs.Passes.{wanted_whole}
+use Rattle.plan_stories.proofs.Right.{plan_right_lem}
 
 -- an accepted build builds its records
 built_accepted : {b b' records : List ℕ} {caps : Caps} → Builds b caps records Built'.Accepted b' → (build caps records).refusal ≡ 0

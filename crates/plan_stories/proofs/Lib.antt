@@ -4,3 +4,4 @@ pub mod Buildable
 pub mod Mornings
 pub mod Passes
 pub mod Calls
+pub mod Right

@@ -1,20 +1,15 @@
 -- "Whenever the wanted list can be built afresh under the same capacities and edition, its plan passes."
-use mathlib.Core.Path.{◌≡◌, refl, sym, ap, ◌∙◌, subst}
-use mathlib.Core.Bool.{true, ◌&&◌}
+use mathlib.Core.Path.{◌≡◌, ap, ◌∙◌}
 use mathlib.Core.List.{List}
 use Prim.Native.Nat.{ℕ}
-use borrow.Author.Tests.{eq-eqb}
-use lib.Dec.{eqb}
-use Rattle.lists.proofs.Bools.{and_both}
-use Rattle.map.specs.Cells.{Live, Map, map_of}
-use Rattle.map.specs.History.{history, build}
+use Rattle.map.specs.Cells.{Map, map_of}
+use Rattle.map.specs.History.{build}
 use Rattle.map.specs.Morning.{Morning, morning}
 use Rattle.map.specs.Sound.{Sound}
-use Rattle.wanted.specs.Wanted.{wanted_of, as_wanted}
-use Rattle.wanted.specs.Plans.{plan_right}
+use Rattle.wanted.specs.Wanted.{wanted_of}
 use Rattle.planner.specs.Plan.{plan_of, plan_words}
 use Rattle.plan_stories.proofs.Passing.{plan_accepted, plan_leaves}
-use Rattle.plan_stories.proofs.Buildable.{build_tidy, tidy_wanted}
+use Rattle.plan_stories.proofs.Buildable.{build_tidy}
 use Rattle.plan_stories.proofs.Mornings.{morning_made}
 
 module _ (m : Map) (s : Sound m) (wanted : List ℕ) (built : (build m.caps wanted).refusal ≡ 0) where
@@ -23,17 +18,9 @@ module _ (m : Map) (s : Sound m) (wanted : List ℕ) (built : (build m.caps want
   wanted_whole = (build_tidy m.caps wanted built).0
 
   -- all edits of the plan are made, and they leave the map of the wanted cells
-  plan_morning : ((morning m (plan_words m wanted)).refusal ≡ 0) × ((morning m (plan_words m wanted)).map ≡ map_of m.caps (wanted_of wanted).cells)
+  pub plan_morning : ((morning m (plan_words m wanted)).refusal ≡ 0) × ((morning m (plan_words m wanted)).map ≡ map_of m.caps (wanted_of wanted).cells)
   unfolding plan_words
   plan_morning =
       let t = (build_tidy m.caps wanted built).1 in
       let e = morning_made (plan_of m (wanted_of wanted).cells) m (plan_accepted m s (wanted_of wanted).cells t) in
       (ap (λ (x : Morning). x.refusal) e, ap (λ (x : Morning). x.map) e ∙ plan_leaves m s (wanted_of wanted).cells t)
-
-  -- so the plan is right
-  pub plan_right_lem : plan_right m (plan_words m wanted) wanted ≡ true
-  unfolding plan_right
-  plan_right_lem =
-      and_both (eqb (morning m (plan_words m wanted)).refusal 0) _ (eq-eqb _ 0 plan_morning.0)
-      (subst (λ (k : Map). as_wanted k (wanted_of wanted).cells ≡ true) (sym plan_morning.1)
-      (tidy_wanted m.caps (wanted_of wanted).cells (build_tidy m.caps wanted built).1))

@@ -23,7 +23,7 @@ use Rattle.numbers.specs.declared.Caps.{Caps}
 use Rattle.map.specs.Cells.{Map, holds, facets_at}
 use Rattle.map.specs.Siblings.{is_half, marks_of, sharers}
 use Rattle.map.specs.Sound.{Sound}
-use Rattle.laws.proofs.Cycles.{sharers_has, has_sharers, sharers_ascend}
+use Rattle.laws.proofs.Sharers.{sharers_has, has_sharers, sharers_ascend}
 use Rattle.laws.proofs.Anchors.{half_facet}
 use Rattle.laws.proofs.Local.{half_inside}
 use Rattle.picture.specs.State.{State, map_with}

@@ -25,8 +25,8 @@ use Rattle.map.specs.declared.Way.TheVariants.{Lone}
 use Rattle.map.specs.Cells.{Map, facets_at}
 use Rattle.map.specs.Siblings.{is_half, marks_of, sharers, siblings, sibling}
 use Rattle.map.specs.Ways.{between, way}
-use Rattle.laws.proofs.Cycles.{sharers_has, sharers_ascend, sharers_same}
-use Rattle.laws.proofs.Ways.{way_by}
+use Rattle.laws.proofs.Sharers.{sharers_has, sharers_ascend, sharers_same}
+use Rattle.laws.proofs.SiblingWays.{way_by}
 use Rattle.picture.specs.State.{State, map_with}
 use Rattle.picture.specs.Picture.{Pic}
 use Rattle.picture.specs.Changes.{with_sib}

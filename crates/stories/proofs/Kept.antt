@@ -24,9 +24,10 @@ use Rattle.map.specs.Sound.{Sound}
 use Rattle.map.specs.Says.{verdict_says, given}
 use Rattle.map.specs.declared.Verdict.TheVariants.{Accepted}
 use Rattle.laws.proofs.Edits.{edited_changed}
-use Rattle.laws.proofs.Local.{Apart, Free, half_other, holds_other, holders_free, half_inside, facets_lack, sibling_free, anchors_free, apart_changed, free_changed}
+use Rattle.laws.proofs.Local.{Apart, Free, half_other, holds_other, holders_free, half_inside, facets_lack, sibling_free, anchors_free, apart_changed}
+use Rattle.laws.proofs.FreeChanged.{free_changed}
 use Rattle.laws.proofs.Halves.{half_live}
-use Rattle.laws.proofs.Ways.{way_other}
+use Rattle.laws.proofs.SiblingWays.{way_other}
 use Rattle.picture.specs.State.{state_of}
 use Rattle.picture.specs.Picture.{chain_of, ahead, link_to, link, corner, link_word, mark_word, sib_word, cell_word, word_of, Wf}
 use Rattle.picture.proofs.Bodies.{ahead_there}

@@ -7,3 +7,5 @@ pub mod Words
 pub mod Kept
 pub mod Records
 pub mod Walks
+pub mod SiblingRecords
+pub mod Alike

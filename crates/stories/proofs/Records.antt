@@ -1,35 +1,28 @@
--- What one record fixes, in any two well-formed memories: a cell's record its type, its licence, its siblings and their ways, a mark's record its first
--- anchors. And the head's live counts.
+-- What one record fixes, in any two well-formed memories: a cell's record its type, its licence and the words of its siblings (SiblingRecords.antt says
+-- which they are), a mark's record its first anchors. And the head's live counts.
 use mathlib.Core.Path.{◌≡◌, refl, sym, ap, ap₂, ◌∙◌}
-use mathlib.Core.Bool.{Bool, true, false, cond, not, ◌||◌}
+use mathlib.Core.Bool.{Bool, true, false, cond, ◌||◌}
 use mathlib.Core.List.{List, [], ◌∷◌}
-use Prim.Native.Nat.{ℕ, ◌+◌, ◌/◌, ◌%◌, ◌<◌, ◌≤◌}
+use Prim.Native.Nat.{ℕ, ◌+◌, ◌<◌, ◌≤◌}
 use native.Mathlib.Decide.{dec_lt}
 use native.Mathlib.Omega.{arith}
-use borrow.Author.Tests.{le-leb, lt-leb, lt-ltb}
-use lib.Dec.{leb, ltb}
+use borrow.Author.Tests.{lt-leb, lt-ltb}
+use lib.Dec.{ltb}
 use lib.ListN.{get_or, length, take}
 use Rattle.lists.specs.Lists.{any}
 use Rattle.lists.proofs.Bools.{clash, or_left, or_right}
-use Rattle.numbers.specs.Half.{half_of}
-use Rattle.numbers.proofs.Inverse.{half_cell, half_facet}
-use Rattle.shapes.specs.Shapes.{facet_count}
 use Rattle.shapes.specs.Sizes.{most_facets, most_code}
-use Rattle.shapes.proofs.Facts.{facts}
 use Rattle.store.specs.Layout.{part_words, mark_words, mark_at, near_at}
 use Rattle.store.specs.Fields.{Count, Anchor, mark_place, Place, InNear, InFar, Code, Licence, Sib, cell_place}
 use Rattle.store.specs.Slots.{InHead, InCell, place_at, address, read}
-use Rattle.map.specs.Cells.{Map, live, cells_of}
-use Rattle.map.specs.Siblings.{sibling}
-use Rattle.map.specs.declared.Way.{Way}
-use Rattle.map.specs.Ways.{way_number, way_at, way}
+use Rattle.map.specs.Cells.{Map, cells_of}
 use Rattle.map.specs.Stars.{anchors}
-use Rattle.map.specs.Answers.{Check, Answer, ◌when◌, answer, cell_checks, half_checks, star_checks, sibling_answer, first_anchor_answer}
+use Rattle.map.specs.Answers.{Check, Answer, ◌when◌, answer, star_checks, first_anchor_answer}
 use Rattle.picture.specs.State.{next, state_of}
 use Rattle.picture.specs.Picture.{Wf}
 use Rattle.picture.proofs.Record.{count_read}
 use Rattle.checks.proofs.Rows.{code_of, licence_of}
-use Rattle.ask.proofs.Words.{sibling_is, way_is, anchor_is}
+use Rattle.ask.proofs.Words.{anchor_is}
 
 -- two lists with the same first as number + 1 have the same first
 next_one : (a b : List ℕ) → next a ≡ next b → take 1 a ≡ take 1 b
@@ -40,7 +33,7 @@ next_one (x ∷ a) [] e = absurd (omega (arith, e))
 next_one (x ∷ a) (y ∷ b) e = let z : x ≡ y = omega (arith, e) in ap (λ (n : ℕ). n ∷ []) z
 
 -- where a check fails the values do not matter
-moot : (checks : List Check) (a b : List ℕ) → any (λ (x : Check). x.fails) checks ≡ true → answer checks a ≡ answer checks b
+pub moot : (checks : List Check) (a b : List ℕ) → any (λ (x : Check). x.fails) checks ≡ true → answer checks a ≡ answer checks b
 unfolding answer any
 moot [] a b e = absurd (clash e refl)
 moot (x ∷ checks) a b e = go x.fails e (moot checks a b)
@@ -58,18 +51,6 @@ moot (x ∷ checks) a b e = go x.fails e (moot checks a b)
 word_in : Place → ℕ
 word_in (InNear k) = k
 word_in (InFar k) = k
-
--- the sibling of each facet of a cell stands in its record, and the way that it runs
-sibling_in_lem : {w : List ℕ} {m : Map} → Wf w m → (c : ℕ) → c < m.caps.cells → (f : ℕ) → f < facet_count (m.at c).code
-    → (f < most_facets) × (read w m.caps (InCell c (Sib f)) / 4 ≡ sibling m (half_of c f))
-    × (way_at (read w m.caps (InCell c (Sib f)) % 4) ≡ way m (half_of c f))
-unfolding facet_count
-sibling_in_lem {w} {m} wf c below f h =
-    let few : f < most_facets = omega (arith, (facts (m.at c).code).facets) in (
-      few,
-      rw (half_cell c f (omega arith), half_facet c f (omega arith)) at (sibling_is w m.caps m refl wf c f below h),
-      rw (half_cell c f (omega arith), half_facet c f (omega arith)) at (way_is w m.caps m refl wf c f below h),
-    )
 
 module _ {w w' : List ℕ} {m m' : Map} (wf : Wf w m) (wf' : Wf w' m') where
   -- one cell number, below both capacities, with the same 16 words in the first part of both records
@@ -90,44 +71,9 @@ module _ {w w' : List ℕ} {m m' : Map} (wf : Wf w m) (wf' : Wf w' m') where
         ∙ (same (word_in (cell_place Licence)) (omega arith) ∙ licence_of m'.caps m' refl w' wf' c below')
 
     -- and each of its facets has the same word in both
-    word_fixed : (f : ℕ) → f < most_facets → read w m.caps (InCell c (Sib f)) ≡ read w' m'.caps (InCell c (Sib f))
+    pub word_fixed : (f : ℕ) → f < most_facets → read w m.caps (InCell c (Sib f)) ≡ read w' m'.caps (InCell c (Sib f))
     unfolding read address place_at cell_place word_in
     word_fixed f few = same (word_in (cell_place (Sib f))) (omega arith)
-
-    -- so the same sibling
-    pub sibling_fixed : (f : ℕ) → f < facet_count (m.at c).code → sibling m (half_of c f) ≡ sibling m' (half_of c f)
-    sibling_fixed f h =
-        let here = sibling_in_lem wf c below f h in
-        let there = sibling_in_lem wf' c below' f (rw (← code_fixed) h) in
-        sym here.1 ∙ (ap (λ (x : ℕ). x / 4) (word_fixed f here.0) ∙ there.1)
-
-    -- which runs the same way: "it is fixed by the cell's record as the sibling is"
-    pub way_fixed : (f : ℕ) → f < facet_count (m.at c).code → way m (half_of c f) ≡ way m' (half_of c f)
-    way_fixed f h =
-        let here = sibling_in_lem wf c below f h in
-        let there = sibling_in_lem wf' c below' f (rw (← code_fixed) h) in
-        sym here.2 ∙ (ap (λ (x : ℕ). way_at (x % 4)) (word_fixed f here.0) ∙ there.2)
-
-    -- the checks of a half-facet come out the same
-    checks_fixed : (f : ℕ) → half_checks m c f ≡ half_checks m' c f
-    unfolding half_checks cell_checks live
-    checks_fixed f = rw (lt-leb m.caps.cells c below, lt-leb m'.caps.cells c below', code_fixed)
-
-    -- a facet number that is too high fails one
-    facet_fails : (f : ℕ) → leb (facet_count (m.at c).code) f ≡ true → any (λ (x : Check). x.fails) (half_checks m c f) ≡ true
-    unfolding half_checks cell_checks ◌when◌ any
-    facet_fails f e = or_right (leb m.caps.cells c) _ (or_right (not (live m c)) _ (or_left _ _ e))
-
-    -- so the sibling query answers the same for every facet number
-    pub sibling_answer_fixed : (f : ℕ) → sibling_answer m c f ≡ sibling_answer m' c f
-    unfolding sibling_answer
-    sibling_answer_fixed f = go (dec_lt f (facet_count (m.at c).code))
-      where
-        go : Dec (f < facet_count (m.at c).code) → sibling_answer m c f ≡ sibling_answer m' c f
-        go (yes h) = ap₂ answer (checks_fixed f) (ap₂ (λ (n : ℕ) (x : Way). n ∷ way_number x ∷ []) (sibling_fixed f h) (way_fixed f h))
-        go (no n) =
-            moot (half_checks m c f) _ _ (facet_fails f (le-leb (facet_count (m.at c).code) f (omega arith)))
-            ∙ ap (λ (checks : List Check). answer checks (sibling m' (half_of c f) ∷ way_number (way m' (half_of c f)) ∷ [])) (checks_fixed f)
 
   -- one mark number, below both capacities, with the same 8 words in both records
   module _ (v : ℕ) (below : v < m.caps.marks) (below' : v < m'.caps.marks)

@@ -18,7 +18,8 @@ use Rattle.map.specs.History.{Edit, edited}
 use Rattle.map.specs.Says.{given}
 use Rattle.map.specs.declared.Verdict.{Verdict}
 use Rattle.map.specs.Sound.{Sound}
-use Rattle.laws.proofs.Cycles.{siblings_live, walk_has, walk_returns, walk_not_before}
+use Rattle.laws.proofs.Cycles.{walk_has, walk_returns, walk_not_before}
+use Rattle.laws.proofs.Sharers.{siblings_live}
 use Rattle.picture.specs.Picture.{Wf}
 use Rattle.laws.proofs.Facets.{facets_count}
 use Rattle.ask.specs.declared.Step.{Step}

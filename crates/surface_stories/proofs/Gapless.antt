@@ -1,17 +1,15 @@
 -- Where the live cells are 0, 1, 2 and so on up to the capacity, as after a read, the renumbered map is the map with licence 0 everywhere; it is the
 -- map itself where no cell has a licence.
 use mathlib.Core.Path.{◌≡◌, refl, sym, ap, ◌∙◌, fun_ext}
-use mathlib.Core.Bool.{Bool, true, cond, not}
-use mathlib.Core.List.{List, [], ◌∷◌, ◌++◌}
+use mathlib.Core.Bool.{Bool, true, cond}
+use mathlib.Core.List.{[], ◌∷◌, ◌++◌}
 use mathlib.Core.Logic.{⊎_elim}
-use Prim.Native.Nat.{ℕ, zero, suc, ◌+◌, ◌<◌}
+use Prim.Native.Nat.{ℕ, zero, suc, ◌<◌}
 use native.Mathlib.Decide.{dec_lt}
 use native.Mathlib.Nat.{eq-or-lt_of_le}
 use native.Mathlib.Omega.{arith}
-use lib.Dec.{eqb}
 use lib.ListN.{length, get_or, length-append, get_or-append}
 use lib.Seq.{get_or_at}
-use lib.IntN.{ℤ}
 use Rattle.lists.specs.Lists.{select}
 use Rattle.lists.proofs.Bools.{not_true_false}
 use Rattle.numbers.specs.Editions.{first_edition}
@@ -19,15 +17,7 @@ use Rattle.numbers.specs.Sizes.{caps_under}
 use Rattle.numbers.specs.declared.Caps.{Caps}
 use Rattle.map.specs.Cells.{Body, licensed_body, Map, no_cell, live}
 use Rattle.map.specs.Sound.{Sound}
-use Rattle.off.specs.Words.{Word}
-use Rattle.off.specs.Reading.{Got, Surface, reading}
-use Rattle.off.proofs.Round.{Face}
-use Rattle.surfaces.specs.ReadsOff.{caps_of, outcome, ReadsOff}
-use Rattle.surfaces.specs.declared.Surfaced.TheVariants as Surfaced'
 use Rattle.surface_stories.specs.Renumbered.{unlicensed, renumbered}
-use Rattle.surface_stories.proofs.Made.{face_body, each_at, face_live}
-use Rattle.surface_stories.proofs.Again.{told, made, outcome_caps}
-use Rattle.surface_stories.proofs.Turned.{accepted}
 use Rattle.surface_stories.proofs.Numbered.{old, cells_count, old_behind, behind_none, at_old}
 
 -- all numbers pass
@@ -95,26 +85,3 @@ renumbered_same m s first all none =
     at : (k : ℕ) → Dec (k < m.caps.cells) → (m.at k).licence ≡ 0
     at k (yes h) = none k h
     at k (no f) = ap (λ (b : Body). b.licence) (behind_cells m s k f)
-
--- so after a read: "exactly the same where the surface was itself read from OFF", for its faces have licence 0
-pub read_gapless : (w : List ℕ) (positions : List ℤ) (text w' : List ℕ) (positions' : List ℤ)
-    → ReadsOff w positions text Surfaced'.Accepted w' positions'
-    → (s : Surface) × (us : List Word) × (reading text ≡ Got s us) × (renumbered (outcome s).map ≡ (outcome s).map)
-unfolding live
-read_gapless w positions text w' positions' r =
-    let a = accepted w positions text w' positions' r in
-    let s = a.surface in
-    let m = (outcome s).map in
-    let left = r.left s a.behind a.reads a.room in
-    let caps : m.caps ≡ caps_of s = outcome_caps text s a.behind a.reads a.built in
-    let t = told text s a.behind a.reads a.built in
-    let d = made text s a.behind a.reads a.built in
-    let inside : (k : ℕ) → k < m.caps.cells → k < length t.list = λ k h. omega (arith, t.count, ap (λ (c : Caps). c.cells) caps, h) in
-    let at : (k : ℕ) → k < m.caps.cells → m.at k ≡ face_body (get_or t.list k []) =
-    λ k h. let from : k ≡ 0 + k = omega arith in ap m.at from ∙ d.here k (inside k h) in
-    let all : (k : ℕ) → k < m.caps.cells → not (eqb (m.at k).code 0) ≡ true =
-    λ k h.
-    ap (λ (b : Body). not (eqb b.code 0)) (at k h)
-    ∙ face_live (get_or t.list k []) (each_at Face t.list t.each k (inside k h)) in
-    let none : (k : ℕ) → k < m.caps.cells → (m.at k).licence ≡ 0 = λ k h. ap (λ (b : Body). b.licence) (at k h) in
-    (s, a.behind, a.reads, renumbered_same m left.wf.sound (ap (λ (c : Caps). c.edition) caps) all none)

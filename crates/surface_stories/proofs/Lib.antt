@@ -10,3 +10,5 @@ pub mod Gaps
 pub mod Gapless
 pub mod Example
 pub mod Rewritten
+pub mod Reread
+pub mod ReadGapless

@@ -20,7 +20,7 @@ use Rattle.map.specs.History.{Outcome, build}
 use Rattle.map.specs.Afresh.{build_words}
 use Rattle.map.specs.Sound.{Sound}
 use Rattle.laws.proofs.Orders.{shuffled_self}
-use Rattle.laws.proofs.Rebuild.{afresh_built}
+use Rattle.laws.proofs.Builds.{afresh_built}
 use Rattle.off.specs.Reading.{face_code}
 use Rattle.off.specs.Writing.{records_from}
 use Rattle.off.proofs.Meant.{Each, none, more}

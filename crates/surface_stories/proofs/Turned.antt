@@ -1,12 +1,12 @@
 -- Two calls: a surface read, then written. What the text says is what was read.
 use mathlib.Core.Path.{◌≡◌, refl, sym, ap, ◌∙◌}
-use mathlib.Core.Bool.{Bool, true, false, cond}
+use mathlib.Core.Bool.{Bool, true, false}
 use mathlib.Core.List.{List, [], ◌∷◌, ◌++◌}
-use Prim.Native.Nat.{ℕ, ◌+◌, ◌*◌, ◌<◌, ◌≤◌}
+use Prim.Native.Nat.{ℕ, ◌*◌, ◌≤◌}
 use native.Mathlib.Decide.{ℕ_discrete}
 use native.Mathlib.Omega.{arith}
-use borrow.Author.Tests.{eq-eqb, ne_eqb, ltb-false}
-use lib.Dec.{eqb, ltb}
+use borrow.Author.Tests.{ne_eqb}
+use lib.Dec.{ltb}
 use lib.ListN.{length, take, drop, length-append}
 use lib.Seq.{take_at}
 use lib.IntN.{ℤ}
@@ -15,19 +15,16 @@ use Rattle.numbers.specs.declared.Caps.{Caps}
 use Rattle.map.specs.Cells.{Map}
 use Rattle.map.specs.Answers.{Answer, ◌when◌, answer, list_answer}
 use Rattle.map.specs.Says.{given}
-use Rattle.picture.specs.Picture.{Wf}
 use Rattle.build.specs.Builds.{placed}
 use Rattle.off.specs.Words.{Word}
 use Rattle.off.specs.Reading.{Read, Got, Stop, Surface, reading}
-use Rattle.surfaces.specs.ReadsOff.{broken, surfaced_says, caps_of, room_refusal, outcome, surface_answer, read_answer, positions_left, SurfaceLeft, ReadsOff}
-use Rattle.surfaces.specs.declared.Surfaced.{Surfaced}
+use Rattle.surfaces.specs.ReadsOff.{broken, surfaced_says, caps_of, room_refusal, outcome, surface_answer, read_answer, positions_left, ReadsOff}
 use Rattle.surfaces.specs.declared.Surfaced.TheVariants as Surfaced'
 use Rattle.surfaces.proofs.Facing.{many_length}
 use Rattle.surfaces_out.specs.WritesOff.{other_cell, off_text, write_checks, write_answer, written_says, text_left, WritesOff}
 use Rattle.surfaces_out.specs.declared.Written.TheVariants as Written'
 use Rattle.off.specs.Numbers.{coordinate_of}
-use Rattle.surface_stories.proofs.Alone.{read_said}
-use Rattle.surface_stories.proofs.Again.{Standing, stands, outcome_caps, read_again}
+use Rattle.surface_stories.proofs.Again.{stands, outcome_caps, read_again}
 
 -- an accepted read: its text is of the form, there is room, and the build is accepted
 room_zero : (words numbers : ℕ) (s : Surface) → (surface_answer words numbers s).refusal ≡ 0 → (room_refusal words numbers s ≡ 0) × ((outcome s).refusal ≡ 0)
@@ -95,12 +92,3 @@ turned w positions text w' positions' r o o' n q =
     let wrote : o' ≡ off_text m positions' ++ drop (length (off_text m positions')) o = answers.1 ∙ rw done.0 in
     let bytes : take n o' ≡ off_text m positions' = ap (take n) wrote ∙ take_at (off_text m positions') (drop (length (off_text m positions')) o) n (sym done.1) in
     (s, a.behind, a.reads, ap reading bytes ∙ read_again text s a.behind a.reads a.built marks cells positions' first enough)
-
--- so it is read with the same answer, and leaves the same memory word for word and the same positions
-pub turned_same : (w : List ℕ) (positions : List ℤ) (text w' : List ℕ) (positions' : List ℤ) → ReadsOff w positions text Surfaced'.Accepted w' positions'
-    → (o o' : List ℕ) (n : ℕ) → WritesOff w' positions' o (Written'.Length n) o'
-    → (r : Surfaced) (w'' : List ℕ) (positions'' : List ℤ) → ReadsOff w positions (take n o') r w'' positions''
-    → (surfaced_says r ≡ surfaced_says Surfaced'.Accepted) × (w'' ≡ w') × (positions'' ≡ positions')
-turned_same w positions text w' positions' x o o' n q r w'' positions'' y =
-    let t = turned w positions text w' positions' x o o' n q in
-    read_said t.0 [] t.1 t.3 t.2 y x

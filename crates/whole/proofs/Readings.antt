@@ -34,7 +34,7 @@ use Rattle.map.specs.Sound.{Sound}
 use Rattle.laws.proofs.Anchors.{half_facet}
 use Rattle.laws.proofs.Halves.{half_live}
 use Rattle.laws.proofs.Cycles.{sibling_live}
-use Rattle.laws.proofs.Ways.{way_by}
+use Rattle.laws.proofs.SiblingWays.{way_by}
 use Rattle.picture.specs.State.{State, next, map_with}
 use Rattle.picture.specs.Picture.{chain_of, Pic}
 use Rattle.picture.specs.Ready.{Ready}
@@ -45,12 +45,11 @@ use Rattle.sibling.specs.Ways.{facing_in}
 use Rattle.sibling.proofs.Mended.{facing_read}
 use Rattle.laws.proofs.Facets.{facets_count, facet_some, facet_inside}
 use Rattle.picture.proofs.Record.{code_read, corner_read, sib_read, way_read, anchor_read}
-use Rattle.facet.proofs.Read.{facet_read}
+use Rattle.facet.proofs.Read.{facet_read, marks_is}
 use Rattle.star.specs.Listed.{Reads}
 use Rattle.group.specs.Group.{Around}
 use Rattle.lists.proofs.Mapped.{copied_list}
 use Rattle.record_checks.specs.Upright.{Upright}
-use Rattle.facet.proofs.Read.{marks_is}
 use Rattle.record_checks.proofs.Uprights.{upright_chain, upright_linked}
 use Rattle.whole.specs.SecondHalf.{Sees, Readied, SettledBy, twin_in, twin_of, lone_of, few_in, sib_right, facet_right, anc_right, count_in, count_right}
 use Rattle.numbers.specs.Sizes.{most_around}
