@@ -10,7 +10,7 @@ use Rattle.crews.specs.Crews.{TwoCrews}
 use Rattle.crews.proofs.Kept.{changed_kept}
 
 module _ (m : Map) (s : Sound m) where
-  -- "each gets the same answer both times": and before and after one that is refused
+  -- "each gets the same answer both times": before and after one that is accepted, or refused
   pub answer_kept : (a b : Edit) → TwoCrews m a b → edit_answer (edited m b) a ≡ edit_answer m a
   unfolding edited
   answer_kept a b crews = go (eqb (edit_answer m b).refusal 0) refl

@@ -1,4 +1,4 @@
--- An edit gets the same answer before and after that of another crew: each of its checks comes out the same, in the listed order.
+-- An edit gets the same answer before and after an accepted one of another crew: each of its checks comes out the same, in the listed order.
 use mathlib.Core.Path.{◌≡◌, refl, sym, ap, ap₂, ◌∙◌}
 use mathlib.Core.Bool.{Bool, true, false, cond, ◌&&◌}
 use mathlib.Core.List.{List, []}

@@ -37,7 +37,7 @@ build_inserts (x ∷ xs) (suc n) place m (next a more) l =
     build_next n place m x.number x.body (build_words xs) a
     ∙ rw (a, history) (build_inserts xs n (suc place) (changed m (insertion x)) rest room)
 
--- a build of its cells in any order is accepted and leaves that map
+-- a build of the live cells of a map, in any order, is accepted and leaves that map
 pub afresh_built : (m : Map) → Sound m → TwoSolids m → (other : List Live) → Shuffled (live_cells m) other
     → ((build m.caps (build_words other)).refusal ≡ 0) × ((build m.caps (build_words other)).map ≡ m)
 unfolding build

@@ -9,8 +9,8 @@ use Rattle.lists.specs.Lists.{has, same_set, after, steps}
 use Rattle.lists.proofs.Members.{has_at}
 use Rattle.lists.proofs.Cyclic.{steps_from, steps_back, steps_first, from_size, after_has, alone_after, after_alone}
 use Rattle.map.specs.Cells.{Map}
-use Rattle.laws.proofs.Sharers.{sharers_has, has_sharers, siblings_ascend, siblings_self, siblings_same, siblings_live}
 use Rattle.map.specs.Siblings.{Half, marks_of, siblings, cycle, sibling, walk, border}
+use Rattle.laws.proofs.Sharers.{sharers_has, has_sharers, siblings_ascend, siblings_self, siblings_same, siblings_live}
 
 module _ (m : Map) where
   sibling_after : (h k : ℕ) → has k (siblings m h) ≡ true → sibling m k ≡ after k (siblings m h)

@@ -1,4 +1,4 @@
--- Groups over any links and any list of cells: closed under links, joined by them, and each cell in exactly one.
+-- Groups over any links and any list of cells: closed under links, and joined by them.
 use mathlib.Core.Path.{◌≡◌, refl}
 use mathlib.Core.Bool.{Bool, true, ◌||◌}
 use mathlib.Core.List.{List}

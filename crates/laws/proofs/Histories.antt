@@ -17,7 +17,7 @@ use Rattle.laws.proofs.Edits.{sound_empty, sound_changed}
 use Rattle.laws.proofs.Solids.{two_empty, two_changed}
 
 module _ (m : Map) (s : Sound m) where
-  -- each edit keeps it sound, accepted or refused
+  -- each edit keeps the map sound, accepted or refused
   pub sound_edited : (e : Edit) → Sound (edited m e)
   unfolding edited
   sound_edited e = go (eqb (edit_answer m e).refusal 0) refl
@@ -37,7 +37,7 @@ pub sound_mesh : (caps : Caps) (es : List Edit) → Sound (history (empty caps) 
 sound_mesh caps es = sound_history _ es (sound_empty caps)
 
 module _ (m : Map) (s : Sound m) (t : TwoSolids m) where
-  -- each edit does, accepted or refused
+  -- each edit leaves two solids at most, accepted or refused
   pub two_edited : (e : Edit) → TwoSolids (edited m e)
   unfolding edited
   two_edited e = go (eqb (edit_answer m e).refusal 0) refl
@@ -46,7 +46,7 @@ module _ (m : Map) (s : Sound m) (t : TwoSolids m) where
       go true a = two_changed m s t e (eqb-true _ 0 a)
       go false a = t
 
--- a whole history does
+-- so does a whole history
 pub two_history : (m : Map) (es : List Edit) → Sound m → TwoSolids m → TwoSolids (history m es)
 unfolding history
 two_history m [] s t = t

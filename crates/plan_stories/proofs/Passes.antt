@@ -1,4 +1,4 @@
--- "Whenever the wanted list can be built afresh under the same capacities and edition, its plan passes."
+-- The plan of a wanted list that can be built: the list is read whole, all edits are made, and they leave the map of the wanted cells.
 use mathlib.Core.Path.{◌≡◌, ap, ◌∙◌}
 use mathlib.Core.List.{List}
 use Prim.Native.Nat.{ℕ}

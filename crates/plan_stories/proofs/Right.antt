@@ -1,4 +1,4 @@
--- The plan of a wanted list that can be built is right.
+-- "Whenever the wanted list can be built afresh under the same capacities and edition, its plan passes."
 use mathlib.Core.Path.{◌≡◌, sym, subst}
 use mathlib.Core.Bool.{true}
 use mathlib.Core.List.{List}

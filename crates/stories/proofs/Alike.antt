@@ -1,5 +1,5 @@
--- Two well-formed memories of one map answer every query alike. So does, beside the mesh that a story leaves, the one that is built afresh from
--- its live cells.
+-- Two well-formed memories of one map answer alike. So do the mesh that a story leaves and the one that is built afresh from its live cells, which
+-- has the same words, is whole, and in the mesh's own memory leaves all as it was.
 use mathlib.Core.Path.{◌≡◌, sym, ◌∙◌}
 use mathlib.Core.Bool.{Bool, true}
 use mathlib.Core.List.{List}
