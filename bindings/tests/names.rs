@@ -44,8 +44,8 @@ fn the_proved_crate_has_these_names() {
     // the frame program's own
     assert!(theirs.contains(&"BadFrame"));
     theirs.retain(|&name| name != "BadFrame");
-    // answers of a surface's two calls alone, `Surfaced` and `Written`, and of a plan's
-    // check, `Planned`
+    // errors of a surface's two calls alone, `NotRead` and `NotWritten`, and of a plan's
+    // check, `Flaw`
     let mut ours = ours();
     ours.retain(|name| !["OffBroken", "NotSurface", "PlanWrong"].contains(&name.as_str()));
     assert_eq!(theirs, ours);

@@ -13,14 +13,13 @@ use Rattle.lists.specs.Lists.{select}
 use Rattle.lists.proofs.Select.{select_same}
 use Rattle.numbers.specs.declared.Caps.{Caps}
 use Rattle.numbers.specs.declared.Cell.{Cell}
-use Rattle.store.specs.declared.Opened.TheVariants.{Mesh}
+use Rattle.std.specs.Prelude.{Ok, Some, None}
 use Rattle.store.specs.Slots.{code_in}
 use Rattle.store.specs.Open.{opened}
 use Rattle.map.specs.Cells.{Map, live}
 use Rattle.map.specs.Answers.{answer}
 use Rattle.map.specs.Free.{free_numbers, free_answer}
 use Rattle.map.specs.Says.{given, cell_says}
-use Rattle.map.specs.declared.CellAt.TheVariants as CellAt
 use Rattle.picture.specs.Picture.{Wf}
 use Rattle.checks.proofs.Rows.{cells_of_lem, code_of}
 use Rattle.ask.specs.Asked.{Asked}
@@ -63,21 +62,21 @@ module _ (w : List ℕ) (caps : Caps) where
       twice true = refl
       twice false = refl
 
-  module _ (opens : Mesh caps ≡ opened w) (c : ℕ) (n : NoneFree c) where
-    pub free_found : (x : ℕ) → c < caps.cells → x ≡ code_in w caps c → x ≡ 0 → (k : Cell) → k.0 ≡ c → Asked cell_says no_cell w free_answer (CellAt.At k)
+  module _ (opens : Ok caps ≡ opened w) (c : ℕ) (n : NoneFree c) where
+    pub free_found : (x : ℕ) → c < caps.cells → x ≡ code_in w caps c → x ≡ 0 → (k : Cell) → k.0 ≡ c → Asked cell_says no_cell w free_answer (Ok (Some k))
     unfolding free_answer answer cell_says given
     free_found x h word z k q =
-        mesh_given cell_says no_cell w free_answer caps opens (CellAt.At k)
+        mesh_given cell_says no_cell w free_answer caps opens (Ok (Some k))
         (λ m e wf.
         let least : take 1 (free_numbers m) ≡ c ∷ [] =
         ap (take 1) (sym (free_are m e wf))
         ∙ first_stays (λ k. eqb (code_in w caps k) 0) c caps.cells n.none (eq-eqb (code_in w caps c) 0 (sym word ∙ z)) h in
         rw (least, q))
 
-    pub free_none : c ≤ caps.cells → caps.cells ≤ c → Asked cell_says no_cell w free_answer CellAt.Nothing
+    pub free_none : c ≤ caps.cells → caps.cells ≤ c → Asked cell_says no_cell w free_answer (Ok None)
     unfolding free_answer answer cell_says given
     free_none a b =
-        mesh_given cell_says no_cell w free_answer caps opens CellAt.Nothing
+        mesh_given cell_says no_cell w free_answer caps opens (Ok None)
         (λ m e wf.
         let through : c ≡ caps.cells = omega arith in
         let all : free_numbers m ≡ [] = sym (free_are m e wf) ∙ (ap (select (λ k. eqb (code_in w caps k) 0)) (sym through) ∙ n.none) in

@@ -13,23 +13,19 @@ use Rattle.words.specs.Words.{BeginsAt, part_of, Part}
 use Rattle.words.proofs.Fits.{part_fits}
 use Rattle.shapes.specs.Shapes.{shape}
 use Rattle.numbers.specs.declared.Caps.{Caps}
-use Rattle.store.specs.declared.Opened.TheVariants.{Mesh}
+use Rattle.std.specs.Prelude.{Result, ⊤, Ok, Err}
 use Rattle.store.specs.Slots.{code_in, marks_at}
 use Rattle.store.specs.Open.{opened}
 use Rattle.map.specs.Cells.{Map, live, dimension_at}
 use Rattle.map.specs.Answers.{Answer, answer, cell_checks, type_answer, marks_part}
 use Rattle.map.specs.Says.{number_of, given, refused, verdict_says}
 use Rattle.map.specs.declared.Refusal.{Refusal}
-use Rattle.map.specs.declared.Verdict.{Verdict}
-use Rattle.map.specs.declared.Verdict.TheVariants.{Accepted}
 use Rattle.picture.specs.Picture.{Wf}
 use Rattle.shapes.proofs.Types.{type_marks}
 use Rattle.facet.specs.Facet.{MarksAt, marks_in}
 use Rattle.facet.proofs.Copy.{marks_words}
 use Rattle.checks.specs.Checked.{Checked}
 use Rattle.checks.specs.Opening.{Opens}
-use Rattle.checks.specs.declared.Opening.{Opening}
-use Rattle.checks.specs.declared.Opening.TheVariants as Opening'
 use Rattle.checks.proofs.Rows.{cells_of_lem, code_of, marks_in_lem}
 use Rattle.map.proofs.Refusals.{number_some}
 use Rattle.checks.proofs.Values.{refused_values, given_values}
@@ -55,7 +51,7 @@ part_zero : (w : List ℕ) → part_of w 0 0 ≡ []
 part_zero w = part_fits w 0 0 (omega arith)
 
 -- refused: nothing is handed back
-handed_refused : (w : List ℕ) (c : ℕ) (opening : Opening) → Opens w (λ m. cell_checks m c) opening → (why : Refusal) → opening ≡ Opening'.Refused why
+handed_refused : (w : List ℕ) (c : ℕ) (opening : Result Caps Refusal) → Opens w (λ m. cell_checks m c) opening → (why : Refusal) → opening ≡ Err why
     → (r : List ℕ) → r ≡ part_of w 0 0 → Handed w (λ m. marks_part m c) r
 unfolding marks_part type_answer refused
 handed_refused w c opening o why q r none = record {
@@ -66,8 +62,8 @@ handed_refused w c opening o why q r none = record {
       (none ∙ part_zero w) ∙ rw (← a, some_number why);
 }
 
-module _ (w : List ℕ) (caps : Caps) (opens : Mesh caps ≡ opened w) (c : ℕ) (verdict : Verdict) (checked : Checked w caps (λ m. cell_checks m c) verdict) where
-  module _ (v : verdict ≡ Accepted) where
+module _ (w : List ℕ) (caps : Caps) (opens : Ok caps ≡ opened w) (c : ℕ) (verdict : Result ⊤ Refusal) (checked : Checked w caps (λ m. cell_checks m c) verdict) where
+  module _ (v : verdict ≡ (Ok tt)) where
     handed_marks : (r : List ℕ) → r ≡ marks_in w caps c → Handed w (λ m. marks_part m c) r
     unfolding marks_part type_answer verdict_says given marks_in
     handed_marks r q = record {
@@ -100,7 +96,7 @@ marks_begin w r caps m e wf c below alive q = rw (e, ← size) (simp (le-leb _ _
 
 -- the same of references: the part that is handed back lies where the marks are stored
 module _ (w r : Bor (List ℕ)) (c : ℕ) where
-  pub marks_refused : (opening : Opening) → Opens w.now (λ m. cell_checks m c) opening → (why : Refusal) → opening ≡ Opening'.Refused why → Part w 0 0 r
+  pub marks_refused : (opening : Result Caps Refusal) → Opens w.now (λ m. cell_checks m c) opening → (why : Refusal) → opening ≡ Err why → Part w 0 0 r
       → HandedMarks w c r
   unfolding type_answer refused
   marks_refused opening o why q none = record {
@@ -111,8 +107,8 @@ module _ (w r : Bor (List ℕ)) (c : ℕ) where
         absurd (omega (arith, number_some why, ap (λ (k : Answer). k.refusal) a, accepted));
   }
 
-  module _ (caps : Caps) (opens : Mesh caps ≡ opened w.now) (verdict : Verdict) (checked : Checked w.now caps (λ m. cell_checks m c) verdict) where
-    pub marks_given : verdict ≡ Accepted → MarksAt w caps c r → HandedMarks w c r
+  module _ (caps : Caps) (opens : Ok caps ≡ opened w.now) (verdict : Result ⊤ Refusal) (checked : Checked w.now caps (λ m. cell_checks m c) verdict) where
+    pub marks_given : verdict ≡ (Ok tt) → MarksAt w caps c r → HandedMarks w c r
     marks_given v q = record {
       marks = handed_marks w.now caps opens c verdict checked v r.now (marks_words w caps c r q);
       begins = λ m wf accepted.

@@ -13,31 +13,27 @@ ghost use Rattle.ask.specs.Asked.{Asked, HandedMarks};
 ghost use Rattle.ask.specs.Steps.{step_says};
 ghost use Rattle.ask.specs.Refusals.{no_value, no_pair, no_cell, no_half, no_truth, no_found, no_step};
 
-use checks::{Opening, about_cell, about_half, about_star, about_type};
+use checks::{about_cell, about_half, about_star, about_type};
 use facet::marks_at;
-use map::{CellAt, Found, HalfAt, Pair, Refusal, Truth, Value, Way};
-use numbers::{Cell, Half, Mark, cell_of, facet_of, half_of};
-use store::{Opened, anchor_of, code_of, count_of, licence_of, open, sibling_of, way_of};
+use map::{Refusal, Way};
+use numbers::{Caps, Cell, Half, Mark, cell_of, facet_of, half_of};
+use store::{anchor_of, code_of, count_of, licence_of, open, sibling_of, way_of};
 use words::part;
 
 // The type of a cell.
-pub fn type_of(w: &[u32], c: Cell) -> Value
+pub fn type_of(w: &[u32], c: Cell) -> Result<u32, Refusal>
     ensures { Asked value_says no_value w.now (λ m. type_answer m c.0) result }
 {
-    match about_cell(w, c) {
-        Opening::Refused(why) => Value::Refused(why),
-        Opening::Open(caps) => Value::Is(code_of(w, caps, c)),
-    }
+    let caps = about_cell(w, c)?;
+    Ok(code_of(w, caps, c))
 }
 
 // The licence of a cell; 0 if it was inserted without one.
-pub fn licence(w: &[u32], c: Cell) -> Value
+pub fn licence(w: &[u32], c: Cell) -> Result<u32, Refusal>
     ensures { Asked value_says no_value w.now (λ m. licence_answer m c.0) result }
 {
-    match about_cell(w, c) {
-        Opening::Refused(why) => Value::Refused(why),
-        Opening::Open(caps) => Value::Is(licence_of(w, caps, c)),
-    }
+    let caps = about_cell(w, c)?;
+    Ok(licence_of(w, caps, c))
 }
 
 // The marks of a cell, as the very part of memory that stores them; empty where the type query refuses.
@@ -45,123 +41,88 @@ pub fn marks_of(w: &[u32], c: Cell) -> &[u32]
     ensures { HandedMarks w.entry c.0 result }
 {
     match about_cell(w, c) {
-        Opening::Refused(_) => part(w, 0, 0),
-        Opening::Open(caps) => marks_at(w, caps, c),
+        Err(_) => part(w, 0, 0),
+        Ok(caps) => marks_at(w, caps, c),
     }
 }
 
 // The sibling of a half-facet, and the way that it runs.
-pub fn sibling(w: &[u32], c: Cell, f: u32) -> HalfAt
+pub fn sibling(w: &[u32], c: Cell, f: u32) -> Result<(Half, Way), Refusal>
     ensures { Asked half_says no_half w.now (λ m. sibling_answer m c.0 f) result }
 {
-    match about_half(w, c, f) {
-        Opening::Refused(why) => HalfAt::Refused(why),
-        Opening::Open(caps) => {
-            let half = half_of(c, f);
-            HalfAt::At(sibling_of(w, caps, half), way_of(w, caps, half))
-        }
-    }
+    let caps = about_half(w, c, f)?;
+    let half = half_of(c, f);
+    Ok((sibling_of(w, caps, half), way_of(w, caps, half)))
 }
 
 // Whether a half-facet is alone in its set.
-pub fn border(w: &[u32], c: Cell, f: u32) -> Truth
+pub fn border(w: &[u32], c: Cell, f: u32) -> Result<bool, Refusal>
     ensures { Asked truth_says no_truth w.now (λ m. border_answer m c.0 f) result }
 {
-    match about_half(w, c, f) {
-        Opening::Refused(why) => Truth::Refused(why),
-        Opening::Open(caps) => {
-            let h = half_of(c, f);
-            if sibling_of(w, caps, h).0 == h.0 {
-                Truth::Yes
-            } else {
-                Truth::No
-            }
-        }
-    }
+    let caps = about_half(w, c, f)?;
+    let h = half_of(c, f);
+    Ok(sibling_of(w, caps, h).0 == h.0)
 }
 
 // The first anchor of a mark in a dimension, or none.
-pub fn first_anchor(w: &[u32], d: u32, v: Mark) -> Found
+pub fn first_anchor(w: &[u32], d: u32, v: Mark) -> Result<Option<Half>, Refusal>
     ensures { Asked found_says no_found w.now (λ m. first_anchor_answer m d v.0) result }
 {
-    let caps = match about_star(w, d, v) {
-        Opening::Refused(why) => return Found::Refused(why),
-        Opening::Open(caps) => caps,
-    };
+    let caps = about_star(w, d, v)?;
     let x = anchor_of(w, caps, d, v);
     if x == 0 {
-        return Found::Nothing;
+        return Ok(None);
     }
-    Found::At(Half(x - 1))
+    Ok(Some(Half(x - 1)))
 }
 
 // The count of live cells of a type.
-pub fn count_of_type(w: &[u32], t: u32) -> Value
+pub fn count_of_type(w: &[u32], t: u32) -> Result<u32, Refusal>
     ensures { Asked value_says no_value w.now (λ m. count_answer m t) result }
 {
-    match about_type(w, t) {
-        Opening::Refused(why) => Value::Refused(why),
-        Opening::Open(caps) => Value::Is(count_of(w, caps, t)),
-    }
+    let caps = about_type(w, t)?;
+    Ok(count_of(w, caps, t))
 }
 
 // The edition that the mesh was formatted under.
-pub fn edition(w: &[u32]) -> Value
+pub fn edition(w: &[u32]) -> Result<u32, Refusal>
     ensures { Asked value_says no_value w.now edition_answer result }
 {
-    match open(w) {
-        Opened::Nothing => Value::Refused(Refusal::NotMesh),
-        Opened::Mesh(caps) => Value::Is(caps.edition),
-    }
+    let Caps { edition, .. } = open(w)?;
+    Ok(edition)
 }
 
 // The capacities that the mesh was formatted for: marks, and cells.
-pub fn capacities(w: &[u32]) -> Pair
+pub fn capacities(w: &[u32]) -> Result<(u32, u32), Refusal>
     ensures { Asked pair_says no_pair w.now capacities_answer result }
 {
-    match open(w) {
-        Opened::Nothing => Pair::Refused(Refusal::NotMesh),
-        Opened::Mesh(caps) => Pair::Are(caps.marks, caps.cells),
-    }
+    let Caps { marks, cells, .. } = open(w)?;
+    Ok((marks, cells))
 }
 
 // The smallest cell number that is not live, or none.
-pub fn free(w: &[u32]) -> CellAt
+pub fn free(w: &[u32]) -> Result<Option<Cell>, Refusal>
     ensures { Asked cell_says no_cell w.now free_answer result }
 {
-    let caps = match open(w) {
-        Opened::Nothing => return CellAt::Refused(Refusal::NotMesh),
-        Opened::Mesh(caps) => caps,
-    };
-    let mut c: u32 = 0;
-    while c < caps.cells {
+    let caps = open(w)?;
+    for c in 0..caps.cells {
         if code_of(w, caps, Cell(c)) == 0 {
-            return CellAt::At(Cell(c));
+            return Ok(Some(Cell(c)));
         }
-        c += 1;
     }
-    CellAt::Nothing
+    Ok(None)
 }
 
 // A walker over one sibling cycle: its place.
 #[derive(Clone, Copy)]
 pub struct Walker(pub Half);
 
-// A walker's step: the walker at the next place and the way that this runs beside the last, or why there is none.
-#[derive(Clone, Copy)]
-pub enum Step {
-    Next(Walker, Way),
-    Refused(Refusal),
-}
-
 impl Walker {
-    // The next place of the cycle as it is now, or the refusal for the half-facet.
-    pub fn step(self, w: &[u32]) -> Step
+    // The walker at the next place of the cycle as it is now, and the way that this runs beside the last; or the refusal for the half-facet.
+    pub fn step(self, w: &[u32]) -> Result<(Walker, Way), Refusal>
         ensures { Asked step_says no_step w.now (λ m. step_answer m self.0.0) result }
     {
-        match sibling(w, cell_of(self.0), facet_of(self.0)) {
-            HalfAt::Refused(why) => Step::Refused(why),
-            HalfAt::At(next, way) => Step::Next(Walker(next), way),
-        }
+        let (next, way) = sibling(w, cell_of(self.0), facet_of(self.0))?;
+        Ok((Walker(next), way))
     }
 }

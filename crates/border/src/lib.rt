@@ -40,10 +40,7 @@ fn alone(w: &[u32], caps: Caps, c: Cell, f: u32) -> bool
 pub fn wanted(w: &[u32], caps: Caps, c: Cell, f: u32, only: bool) -> bool
     ensures { result ≡ wanted_in w.now caps c.0 f only }
 {
-    if !only {
-        return true;
-    }
-    alone(w, caps, c, f)
+    !only || alone(w, caps, c, f)
 }
 
 // For each corner of a type, the lowest byte first, the facets that hold it: facet f counts 2 to the f.
@@ -86,10 +83,7 @@ fn star_bits(w: &[u32], caps: Caps, d: u32, c: Cell, k: u32) -> u32
 fn picked(w: &[u32], caps: Caps, c: Cell, f: u32, left: u32, only: bool) -> bool
     ensures { result ≡ (bit_at left 0 && wanted_in w.now caps c.0 f only) }
 {
-    if left % 2 == 0 {
-        return false;
-    }
-    wanted(w, caps, c, f, only)
+    left % 2 == 1 && wanted(w, caps, c, f, only)
 }
 
 // The first wanted facet among some of a cell; 8 where there is none.
@@ -97,13 +91,11 @@ fn facet_at(w: &[u32], caps: Caps, c: Cell, bits: u32, only: bool) -> u32
     ensures { result ≡ facet_at_in w.now caps c.0 bits only }
 {
     let mut left = bits;
-    let mut f: u32 = 0;
-    while f < MOST_FACETS {
+    for f in 0..MOST_FACETS {
         if picked(w, caps, c, f, left, only) {
             return f;
         }
-        left = left / 2;
-        f += 1;
+        left /= 2;
     }
     NO_FACET
 }
@@ -138,8 +130,7 @@ pub fn ends_of(w: &[u32], caps: Caps, d: u32, v: Mark) -> Ends
 {
     let mut any: u32 = 0;
     let mut link = first_of(w, caps, v);
-    let mut n: u32 = 0;
-    while n < MOST_AROUND {
+    for _ in 0..MOST_AROUND {
         if link == 0 {
             return Ends { any, border: 0 };
         }
@@ -152,7 +143,6 @@ pub fn ends_of(w: &[u32], caps: Caps, d: u32, v: Mark) -> Ends
             return Ends { any, border };
         }
         link = link_of(w, caps, c, at % 8);
-        n += 1;
     }
     Ends { any, border: 0 }
 }
@@ -161,12 +151,10 @@ pub fn ends_of(w: &[u32], caps: Caps, d: u32, v: Mark) -> Ends
 fn corner_with(w: &[u32], caps: Caps, c: Cell, v: Mark) -> u32
     ensures { result ≡ corner_of w.now caps c.0 v.0 }
 {
-    let mut k: u32 = 0;
-    while k < MOST_MARKS {
+    for k in 0..MOST_MARKS {
         if corner_of(w, caps, c, k).0 == v.0 {
             return k;
         }
-        k += 1;
     }
     0
 }
@@ -193,11 +181,9 @@ fn other(bits: u32, g: u32) -> u32
 {
     let mut found = g;
     let mut left = bits;
-    let mut f: u32 = 0;
-    while f < MOST_FACETS {
+    for f in 0..MOST_FACETS {
         found = better(found, g, f, left);
-        left = left / 2;
-        f += 1;
+        left /= 2;
     }
     found
 }
@@ -230,8 +216,7 @@ fn walks_out(w: &[u32], caps: Caps, v: Mark, start: Half) -> bool
     ensures { Out w.now caps v.0 start.0 result }
 {
     let mut h = start;
-    let mut left: u32 = MOST_STEPS;
-    while 0 < left {
+    for step in 0..MOST_STEPS {
         let next = sibling_of(w, caps, h);
         if next.0 == h.0 {
             return true;
@@ -239,11 +224,10 @@ fn walks_out(w: &[u32], caps: Caps, v: Mark, start: Half) -> bool
         if next.0 / 8 < start.0 / 8 {
             return true;
         }
-        h = turn(w, caps, v, next, left % 2 == 0);
+        h = turn(w, caps, v, next, step % 2 == 0);
         if h.0 == start.0 {
             return false;
         }
-        left -= 1;
     }
     false
 }
@@ -252,10 +236,7 @@ fn walks_out(w: &[u32], caps: Caps, v: Mark, start: Half) -> bool
 fn facet_out(w: &[u32], caps: Caps, v: Mark, c: Cell, f: u32, left: u32) -> bool
     ensures { FacetOut w.now caps v.0 c.0 f left result }
 {
-    if left % 2 == 0 {
-        return false;
-    }
-    walks_out(w, caps, v, half_of(c, f))
+    left % 2 == 1 && walks_out(w, caps, v, half_of(c, f))
 }
 
 // So from one of some facets of a cell, where it has any.
@@ -266,13 +247,11 @@ fn cell_out(w: &[u32], caps: Caps, v: Mark, c: Cell, bits: u32) -> bool
         return true;
     }
     let mut left = bits;
-    let mut f: u32 = 0;
-    while f < MOST_FACETS {
+    for f in 0..MOST_FACETS {
         if facet_out(w, caps, v, c, f, left) {
             return true;
         }
-        left = left / 2;
-        f += 1;
+        left /= 2;
     }
     false
 }
@@ -282,8 +261,7 @@ pub fn all_out(w: &[u32], caps: Caps, d: u32, v: Mark, b: Cell) -> bool
     ensures { AllOut w.now caps d v.0 b.0 result }
 {
     let mut link = first_of(w, caps, v);
-    let mut n: u32 = 0;
-    while n < MOST_AROUND {
+    for _ in 0..MOST_AROUND {
         if link == 0 {
             return true;
         }
@@ -296,7 +274,6 @@ pub fn all_out(w: &[u32], caps: Caps, d: u32, v: Mark, b: Cell) -> bool
             return false;
         }
         link = link_of(w, caps, c, at % 8);
-        n += 1;
     }
     false
 }

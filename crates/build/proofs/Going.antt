@@ -20,12 +20,10 @@ use Rattle.store.specs.Open.{room_in}
 use Rattle.map.specs.Cells.{Body, licensed_body, Map, no_cell, body_in, map_of, live}
 use Rattle.map.specs.Answers.{Answer, answer, format_checks}
 use Rattle.map.specs.History.{empty, Insert, edit_answer, put, changed, Outcome, build_from, build}
-use Rattle.map.specs.Says.{number_of, given, refused, verdict_says, built_says}
+use Rattle.map.specs.Says.{number_of, given, refused, verdict_says, built_says, RefusedAt}
 use Rattle.map.specs.declared.Refusal.{Refusal}
 use Rattle.map.specs.declared.Refusal.TheVariants.{CountWrong}
-use Rattle.map.specs.declared.Verdict.{Verdict}
-use Rattle.map.specs.declared.Verdict.TheVariants.{Accepted, Refused}
-use Rattle.map.specs.declared.Built.TheVariants as Built'
+use Rattle.std.specs.Prelude.{Result, ⊤, Ok, Err}
 use Rattle.map.proofs.Says.{verdict_one}
 use Rattle.laws.proofs.Edits.{MayInsert, may_insert, edited_changed, typed_coded}
 use Rattle.map.proofs.Refusals.{number_some}
@@ -72,15 +70,15 @@ pub record Going (w₁ : List ℕ) (caps : Caps) (records : List ℕ) (at place 
   pub inside : Only (λ i. i < room caps.marks caps.cells) w₁ w
 
 -- the number of a format's refusal
-format_number : (w : List ℕ) (caps : Caps) (why : Refusal) → verdict_says (Refused why) ≡ answer (format_checks (length w) caps) []
+format_number : (w : List ℕ) (caps : Caps) (why : Refusal) → verdict_says (Err why) ≡ answer (format_checks (length w) caps) []
     → format_refusal (length w) caps ≡ number_of why
 unfolding format_refusal verdict_says refused
 format_number w caps why e = sym (ap (λ (a : Answer). a.refusal) e)
 
 module _ (caps : Caps) (records : List ℕ) where
   -- the format refused
-  pub build_refused : (w₀ w₁ : List ℕ) (v : Verdict) → Formatted w₀ caps v w₁ → (why : Refusal) → v ≡ Refused why → (p : ℕ) → p ≡ 0
-      → Builds w₀ caps records (Built'.Refused why p) w₁
+  pub build_refused : (w₀ w₁ : List ℕ) (v : Result ⊤ Refusal) → Formatted w₀ caps v w₁ → (why : Refusal) → v ≡ Err why → (p : ℕ) → p ≡ 0
+      → Builds w₀ caps records (RefusedAt why p) w₁
   unfolding built_says build_answer placed
   build_refused w₀ w₁ v f why e p z =
       let number = format_number w₀ caps why (ap verdict_says (sym e) ∙ f.says) in
@@ -93,8 +91,8 @@ module _ (caps : Caps) (records : List ℕ) where
       }
 
   -- the format accepted, and then so many records
-  module _ (w₀ w₁ : List ℕ) (v : Verdict) (f : Formatted w₀ caps v w₁) (ok : v ≡ Accepted) where
-    accepted : verdict_says Accepted ≡ answer (format_checks (length w₀) caps) []
+  module _ (w₀ w₁ : List ℕ) (v : Result ⊤ Refusal) (f : Formatted w₀ caps v w₁) (ok : v ≡ (Ok tt)) where
+    accepted : verdict_says (Ok tt) ≡ answer (format_checks (length w₀) caps) []
     accepted = ap verdict_says (sym ok) ∙ f.says
 
     formatted : format_refusal (length w₀) caps ≡ 0
@@ -121,7 +119,7 @@ module _ (caps : Caps) (records : List ℕ) where
 
     -- no words left
     pub build_done : (at place : ℕ) (w : List ℕ) → Going w₁ caps records at place w → length records ≤ at
-        → Builds w₀ caps records Built'.Accepted w
+        → Builds w₀ caps records (Ok tt) w
     unfolding placed built_says given
     build_done at place w g h = record {
       says = sym (outcome_says _ done);
@@ -135,14 +133,14 @@ module _ (caps : Caps) (records : List ℕ) where
 
     -- a record refused, and the memory formatted again
     pub build_stopped : (why : Refusal) (place : ℕ) → build caps records ≡ record { refusal = number_of why; place = place; map = empty caps }
-        → (w w' : List ℕ) → Only (λ i. i < room caps.marks caps.cells) w₁ w → (again : Verdict) (i n k : ℕ) → Formatted w (caps_under i n k) again w'
-        → i ≡ caps.edition → n ≡ caps.marks → k ≡ caps.cells → (p : ℕ) → p ≡ place → Builds w₀ caps records (Built'.Refused why p) w'
+        → (w w' : List ℕ) → Only (λ i. i < room caps.marks caps.cells) w₁ w → (again : Result ⊤ Refusal) (i n k : ℕ) → Formatted w (caps_under i n k) again w'
+        → i ≡ caps.edition → n ≡ caps.marks → k ≡ caps.cells → (p : ℕ) → p ≡ place → Builds w₀ caps records (RefusedAt why p) w'
     unfolding placed built_says
     build_stopped why place stops w w' inside again i n k second ei en ek p ep = record {
       says = rw (outcome_says _ stops, ep, ne_eqb (number_of why) 0 (λ n. omega (arith, number_some why)));
       kept = λ n. absurd (n formatted);
       inside = only_then f.inside (only_then inside anew.inside);
-      wf = λ n. rw stops (anew.wf (verdict_one again Accepted says));
+      wf = λ n. rw stops (anew.wf (verdict_one again (Ok tt) says));
     }
       where
         size : length w ≡ length w₀
@@ -151,7 +149,7 @@ module _ (caps : Caps) (records : List ℕ) where
         anew : Formatted w caps again w'
         anew = rw (ei, en, ek) at second
 
-        says : verdict_says again ≡ verdict_says Accepted
+        says : verdict_says again ≡ verdict_says (Ok tt)
         says = anew.says ∙ (rw size (sym accepted))
 
   module _ (w₁ : List ℕ) (at place : ℕ) (w : List ℕ) (g : Going w₁ caps records at place w) where
@@ -161,7 +159,7 @@ module _ (caps : Caps) (records : List ℕ) where
 
     -- a record more
     module _ (more : at < length records) (end : ℕ) (ends : end ≡ min (at + width records at) (length records))
-        (v : Verdict) (w' : List ℕ) (did : Recorded w records at end v w') where
+        (v : Result ⊤ Refusal) (w' : List ℕ) (did : Recorded w records at end v w') where
       rooms : room_in w ≡ room caps.marks caps.cells
       rooms = head_room w g.map g.wf ∙ (rw g.of_caps)
 
@@ -207,7 +205,7 @@ module _ (caps : Caps) (records : List ℕ) where
         unfolding c t left
         behind h = next_words records at end ends long (ap length (marks_taken records at end ends long) ∙ h)
 
-        refused_words : (why : Refusal) → v ≡ Refused why
+        refused_words : (why : Refusal) → v ≡ Err why
             → build_from g.fuel place g.map (drop at records)
             ≡ record { refusal = number_of why; place = place; map = empty g.map.caps }
         unfolding verdict_says refused
@@ -215,7 +213,7 @@ module _ (caps : Caps) (records : List ℕ) where
             rw words (turn_refused place g.map c t licence left g.fuel some why
             (ap (λ (a : Answer). a.refusal) (ap verdict_says (sym e) ∙ says)))
 
-      short_words : end < at + 3 → (why : Refusal) → v ≡ Refused why
+      short_words : end < at + 3 → (why : Refusal) → v ≡ Err why
           → build_from g.fuel place g.map (drop at records)
           ≡ record { refusal = number_of why; place = place; map = empty g.map.caps }
       short_words l why e =
@@ -225,7 +223,7 @@ module _ (caps : Caps) (records : List ℕ) where
           (omega (arith, length-drop at records, end_short records at end ends more l)))
 
       -- refused: the build ends with its place
-      pub going_refused : (why : Refusal) → v ≡ Refused why
+      pub going_refused : (why : Refusal) → v ≡ Err why
           → (build caps records ≡ record { refusal = number_of why; place = place; map = empty caps })
           × Only (λ i. i < room caps.marks caps.cells) w₁ w'
       going_refused why e = (g.rest ∙ (go (dec_lt end (at + 3)) ∙ (rw g.of_caps)), went)
@@ -236,14 +234,14 @@ module _ (caps : Caps) (records : List ℕ) where
           go (no l) = refused_words (omega arith) why e
 
       -- accepted: the next one
-      accepted_long : v ≡ Accepted → at + 3 ≤ end
+      accepted_long : v ≡ (Ok tt) → at + 3 ≤ end
       accepted_long e = go (dec_lt end (at + 3))
         where
           go : Dec (end < at + 3) → at + 3 ≤ end
           go (yes l) = let z : ◌≡◌ {A = ℕ} 0 1 = cc (did.short l).0 in absurd (omega arith)
           go (no l) = omega arith
 
-      pub going_next : v ≡ Accepted → (at' place' : ℕ) → at' ≡ end → place' ≡ place + 1 → Going w₁ caps records at' place' w'
+      pub going_next : v ≡ (Ok tt) → (at' place' : ℕ) → at' ≡ end → place' ≡ place + 1 → Going w₁ caps records at' place' w'
       unfolding changed put verdict_says given
       going_next e at' place' ea ep = rw (ea, ep) (record {
         map = changed g.map (Insert c x);

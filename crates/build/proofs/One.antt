@@ -5,13 +5,14 @@ use Prim.Native.Nat.{ℕ}
 use native.Mathlib.Decide.{ℕ_discrete}
 use lib.ListN.{length}
 use Rattle.numbers.specs.declared.Caps.{Caps}
-use Rattle.map.specs.declared.Built.{Built}
+use Rattle.map.specs.declared.Unbuilt.{Unbuilt}
+use Rattle.std.specs.Prelude.{Result, ⊤}
 use Rattle.map.proofs.Says.{built_one}
 use Rattle.laws.proofs.Edits.{build_caps}
 use Rattle.picture.proofs.Put.{wf_alone}
 use Rattle.build.specs.Builds.{format_refusal, Builds}
 
-pub build_one : {w a b : List ℕ} {caps : Caps} {records : List ℕ} {r s : Built} → Builds w caps records r a → Builds w caps records s b
+pub build_one : {w a b : List ℕ} {caps : Caps} {records : List ℕ} {r s : Result ⊤ Unbuilt} → Builds w caps records r a → Builds w caps records s b
     → (r ≡ s) × (a ≡ b)
 build_one {w} {a} {b} {caps} {records} {r} {s} x y =
     (built_one r s (x.says ∙ sym y.says), go (ℕ_discrete (format_refusal (length w) caps) 0))

@@ -13,8 +13,8 @@ use Rattle.shapes.specs.Shapes.{shape}
 use Rattle.map.specs.Cells.{licensed_body}
 use Rattle.map.specs.History.{Insert}
 use Rattle.map.specs.declared.Refusal.TheVariants.{CountWrong}
-use Rattle.map.specs.declared.Verdict.{Verdict}
-use Rattle.map.specs.declared.Verdict.TheVariants.{Refused}
+use Rattle.map.specs.declared.Refusal.{Refusal}
+use Rattle.std.specs.Prelude.{Result, ⊤, Err}
 use Rattle.mesh.specs.Edited.{Edited}
 use Rattle.build.specs.Recorded.{width, between, Recorded}
 
@@ -81,12 +81,12 @@ module _ (records : List ℕ) (at : ℕ) where
 
 -- the record between two places, inserted or too short
 module _ (w records : List ℕ) (at end : ℕ) where
-  pub record_short : end < at + 3 → Recorded w records at end (Refused CountWrong) w
+  pub record_short : end < at + 3 → Recorded w records at end (Err CountWrong) w
   record_short h = record { short = λ l. (refl, refl); whole = λ l. absurd (omega arith) }
 
   pub record_made : (c t i licence j k n : ℕ) (marks : List ℕ) → at + 3 ≤ end → c ≡ get_or records at 0 → t ≡ get_or records i 0 → i ≡ at + 1
       → licence ≡ get_or records j 0 → j ≡ at + 2 → marks ≡ part_of records k n → k ≡ at + 3 → n ≡ end - 3 - at
-      → (r : Verdict) (w' : List ℕ) → Edited w (Insert c (licensed_body t licence marks)) r w' → Recorded w records at end r w'
+      → (r : Result ⊤ Refusal) (w' : List ℕ) → Edited w (Insert c (licensed_body t licence marks)) r w' → Recorded w records at end r w'
   unfolding between
   record_made c t i licence j k n marks long ec et ei el ej em ek en r w' edited =
       record { short = λ l. absurd (omega arith); whole = λ l. rw (← en, ← ek, ← em, ← ej, ← el, ← ei, ← et, ← ec) edited }

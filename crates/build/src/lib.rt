@@ -13,7 +13,7 @@ ghost use Rattle.build.specs.Builds.{Builds};
 ghost use Rattle.build.specs.Recorded.{width, Recorded};
 
 use format::format_edition;
-use map::{Built, Refusal, Verdict};
+use map::{Refusal, Unbuilt};
 use mesh::insert_licensed;
 use numbers::{Cell, FIRST_EDITION};
 use shapes::mark_count;
@@ -35,14 +35,14 @@ pub fn record_end(records: &[u32], at: usize) -> usize
 }
 
 // The record between two places, inserted.
-pub fn one_record(w: &mut [u32], records: &[u32], at: usize, end: usize) -> Verdict
+pub fn one_record(w: &mut [u32], records: &[u32], at: usize, end: usize) -> Result<(), Refusal>
     ensures { Recorded w.old records.now at end result w.new }
 {
     if end < 3 {
-        return Verdict::Refused(Refusal::CountWrong);
+        return Err(Refusal::CountWrong);
     }
     if end - 3 < at {
-        return Verdict::Refused(Refusal::CountWrong);
+        return Err(Refusal::CountWrong);
     }
     let c = word(records, at);
     let t = word(records, at + 1);
@@ -52,28 +52,35 @@ pub fn one_record(w: &mut [u32], records: &[u32], at: usize, end: usize) -> Verd
 }
 
 // A mesh of these capacities and this edition with the cells of the records.
-pub fn build_edition(w: &mut [u32], marks: u32, cells: u32, edition: u32, records: &[u32]) -> Built
+pub fn build_edition(
+    w: &mut [u32],
+    marks: u32,
+    cells: u32,
+    edition: u32,
+    records: &[u32],
+) -> Result<(), Unbuilt>
     ensures { Builds w.old (caps_under edition marks cells) records.now result w.new }
 {
-    if let Verdict::Refused(why) = format_edition(w, marks, cells, edition) {
-        return Built::Refused(why, 0);
+    if let Err(why) = format_edition(w, marks, cells, edition) {
+        return Err(Unbuilt { why, place: 0 });
     }
     let mut at: usize = 0;
     let mut place: u32 = 0;
+    // a walk from record to record, not a count: each says where the next begins
     while at < records.len() {
         let end = record_end(records, at);
-        if let Verdict::Refused(why) = one_record(w, records, at, end) {
-            format_edition(w, marks, cells, edition);
-            return Built::Refused(why, place);
+        if let Err(why) = one_record(w, records, at, end) {
+            let _ = format_edition(w, marks, cells, edition);
+            return Err(Unbuilt { why, place });
         }
         at = end;
         place += 1;
     }
-    Built::Accepted
+    Ok(())
 }
 
 // A mesh of these capacities with the cells of the records, under edition 1.
-pub fn build(w: &mut [u32], marks: u32, cells: u32, records: &[u32]) -> Built
+pub fn build(w: &mut [u32], marks: u32, cells: u32, records: &[u32]) -> Result<(), Unbuilt>
     ensures { Builds w.old (capacities marks cells) records.now result w.new }
 {
     build_edition(w, marks, cells, FIRST_EDITION, records)

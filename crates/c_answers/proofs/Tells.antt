@@ -1,30 +1,34 @@
 -- An answer told: refused, given a value, given none.
-use mathlib.Core.Path.{◌≡◌, refl}
+use mathlib.Core.Path.{◌≡◌, refl, ap, ◌∙◌}
 use mathlib.Core.List.{[], ◌∷◌}
 use Prim.Native.Nat.{ℕ, ◌%◌}
 use native.Mathlib.Omega.{arith}
 use borrow.Author.Tests.{ne_eqb}
 use Rattle.lists.specs.Lists.{first}
 use Rattle.map.specs.Answers.{Answer}
-use Rattle.map.specs.Says.{number_of, given, refused, verdict_says, built_says, edits_says}
+use Rattle.map.specs.Says.{number_of, given, refused, verdict_says, built_says, edits_says, RefusedAt, StoppedAt}
 use Rattle.map.specs.declared.Refusal.{Refusal}
-use Rattle.map.specs.declared.Verdict.{Verdict}
-use Rattle.map.specs.declared.Verdict.TheVariants as Verdict'
-use Rattle.map.specs.declared.Built.{Built}
-use Rattle.map.specs.declared.Built.TheVariants as Built'
-use Rattle.map.specs.declared.Edits.{Edits}
-use Rattle.map.specs.declared.Edits.TheVariants as Edits'
+use Rattle.map.specs.declared.Stopped.{Stopped}
+use Rattle.map.specs.declared.Unbuilt.{Unbuilt}
+use Rattle.std.specs.Prelude.{Result, ⊤, Ok, Err}
 use Rattle.map.proofs.Refusals.{number_some}
 use Rattle.plan_check.specs.Checked.{planned_says}
-use Rattle.plan_check.specs.declared.Planned.{Planned}
-use Rattle.plan_check.specs.declared.Planned.TheVariants as Planned'
+use Rattle.plan_check.specs.declared.Flaw.TheVariants.{Wrong}
+use Rattle.plan_check.specs.declared.Flaw.{Flaw}
 use Rattle.surfaces.specs.ReadsOff.{broken, surfaced_says}
-use Rattle.surfaces.specs.declared.Surfaced.{Surfaced}
-use Rattle.surfaces.specs.declared.Surfaced.TheVariants as Surfaced'
+use Rattle.surfaces.specs.declared.NotRead.{NotRead}
+use Rattle.surfaces.specs.declared.NotRead.TheVariants as NotRead'
 use Rattle.surfaces_out.specs.WritesOff.{written_says}
-use Rattle.surfaces_out.specs.declared.Written.{Written}
-use Rattle.surfaces_out.specs.declared.Written.TheVariants as Written'
+use Rattle.surfaces_out.specs.declared.NotWritten.{NotWritten}
+use Rattle.surfaces_out.specs.declared.NotWritten.TheVariants as NotWritten'
 use Rattle.c_answers.specs.Told.{Told, ToldTwo, ToldFound}
+
+-- what stands inside an answer
+pub ok_with : {T E : Type 0} {r : Result T E} {x y : T} → r ≡ Ok x → x ≡ y → r ≡ Ok y
+ok_with e f = e ∙ ap Ok f
+
+pub err_with : {T E : Type 0} {r : Result T E} {x y : E} → r ≡ Err x → x ≡ y → r ≡ Err y
+err_with e f = e ∙ ap Err f
 
 module _ (a : Answer) (x : ℕ) where
   pub told_refused : (why : Refusal) (r : ℕ) → a ≡ refused why → r ≡ number_of why → Told a x r x
@@ -66,41 +70,41 @@ module _ (a : Answer) (x : ℕ) where
     found_given n e = record { told = told_given n e; found = rw e }
 
 -- a verdict has no value
-module _ (v : Verdict) where
-  pub verdict_accepted : v ≡ Verdict'.Accepted → 0 ≡ (verdict_says v).refusal
+module _ (v : Result ⊤ Refusal) where
+  pub verdict_accepted : v ≡ (Ok tt) → 0 ≡ (verdict_says v).refusal
   unfolding verdict_says given
   verdict_accepted e = rw e
 
-  pub verdict_refused : (why : Refusal) (r : ℕ) → v ≡ Verdict'.Refused why → r ≡ number_of why → r ≡ (verdict_says v).refusal
+  pub verdict_refused : (why : Refusal) (r : ℕ) → v ≡ Err why → r ≡ number_of why → r ≡ (verdict_says v).refusal
   unfolding verdict_says refused
   verdict_refused why r e q = rw (e, q)
 
 -- a refused build has the place
-pub built_refused : (b : Built) (x : ℕ) (why : Refusal) (place r : ℕ) → b ≡ Built'.Refused why place → r ≡ number_of why → Told (built_says b) x r place
+pub built_refused : (b : Result ⊤ Unbuilt) (x : ℕ) (why : Refusal) (place r : ℕ) → b ≡ RefusedAt why place → r ≡ number_of why → Told (built_says b) x r place
 unfolding built_says first
 built_refused b x why place r e q = record { number = rw (e, q); value = rw e }
 
 -- a list of edits has the number made
-pub edits_stopped : (e : Edits) (x : ℕ) (why : Refusal) (made r : ℕ) → e ≡ Edits'.Stopped made why → r ≡ number_of why → Told (edits_says e) x r made
+pub edits_stopped : (e : Result ℕ Stopped) (x : ℕ) (why : Refusal) (made r : ℕ) → e ≡ StoppedAt made why → r ≡ number_of why → Told (edits_says e) x r made
 unfolding edits_says first
 edits_stopped e x why made r q n = record { number = rw (q, n); value = rw q }
 
 -- a refused read has its place
-module _ (s : Surfaced) (x : ℕ) where
-  pub surfaced_broken : (place : ℕ) → s ≡ Surfaced'.Broken place → Told (surfaced_says s) x 17 place
+module _ (s : Result (Unit {0}) NotRead) (x : ℕ) where
+  pub surfaced_broken : (place : ℕ) → s ≡ Err (NotRead'.Broken place) → Told (surfaced_says s) x 17 place
   unfolding surfaced_says broken first
   surfaced_broken place e = record { number = rw e; value = rw e }
 
-  pub surfaced_refused : (why : Refusal) (place r : ℕ) → s ≡ Surfaced'.Refused why place → r ≡ number_of why → Told (surfaced_says s) x r place
+  pub surfaced_refused : (why : Refusal) (place r : ℕ) → s ≡ Err (NotRead'.Refused why place) → r ≡ number_of why → Told (surfaced_says s) x r place
   unfolding surfaced_says first
   surfaced_refused why place r e q = record { number = rw (e, q); value = rw e }
 
 -- a cell that is no face has no value
-pub written_other : (t : Written) (x : ℕ) → t ≡ Written'.NotSurface → Told (written_says t) x 18 x
+pub written_other : (t : Result ℕ NotWritten) (x : ℕ) → t ≡ Err NotWritten'.NotSurface → Told (written_says t) x 18 x
 unfolding written_says first
 written_other t x e = record { number = rw e; value = rw e }
 
 -- a plan that is wrong has its place
-pub planned_wrong : (p : Planned) (x place : ℕ) → p ≡ Planned'.Wrong place → Told (planned_says p) x 24 place
+pub planned_wrong : (p : Result ⊤ Flaw) (x place : ℕ) → p ≡ Err (Wrong place) → Told (planned_says p) x 24 place
 unfolding planned_says first
 planned_wrong p x place e = record { number = rw e; value = rw e }

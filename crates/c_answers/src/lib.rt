@@ -1,7 +1,7 @@
 // Each kind of answer as a number and lent words: 0 with the value in its place, or the refusal's number.
 //
-// What is here: a function for each answer enum of crates/map, crates/positions, crates/surfaces, crates/surfaces_out, crates/plan_check and
-// crates/planner. What is proved: the number is the answer's refusal, and the lent word or float is the answer's value, or as it was where the answer
+// What is here: a function for each kind of answer, a `Result` of crates/map, crates/positions, crates/surfaces, crates/surfaces_out,
+// crates/plan_check and crates/planner. What is proved: the number is the answer's refusal, and the lent word or float is the answer's value, or as it was where the answer
 // has none (specs/Told.antt, specs/Floats.antt). What a caller should know: a refused build has a value, the place of its record, a refused read its
 // place, a plan the place of its first wrong edit, and a list of edits has one always, the number made; every other answer has one only where it
 // is accepted.
@@ -17,15 +17,13 @@ ghost use Rattle.planner.specs.Proposed.{proposal_says};
 ghost use Rattle.c_answers.specs.Told.{Told, ToldTwo, ToldFound};
 ghost use Rattle.c_answers.specs.Floats.{ToldMeasure, ToldPoint};
 
-use map::{
-    Built, CellAt, Edits, Found, HalfAt, Pair, Refusal, Truth, Value, Verdict, number_of,
-    way_number,
-};
-use plan_check::Planned;
-use planner::Proposal;
-use positions::{Centred, Measured};
-use surfaces::Surfaced;
-use surfaces_out::Written;
+use map::{Refusal, Stopped, Unbuilt, Way, number_of, way_number};
+use metres::Point;
+use numbers::{Cell, Half};
+use plan_check::Flaw;
+use positions::Measured;
+use surfaces::NotRead;
+use surfaces_out::NotWritten;
 
 // The number of a refusal in a byte.
 pub fn byte_of(why: Refusal) -> u8
@@ -35,22 +33,22 @@ pub fn byte_of(why: Refusal) -> u8
 }
 
 // Accepted, or why not.
-pub fn tell_verdict(v: Verdict) -> u8
-    ensures { result ≡ (verdict_says v).refusal }
+pub fn tell_verdict(verdict: Result<(), Refusal>) -> u8
+    ensures { result ≡ (verdict_says verdict).refusal }
 {
-    match v {
-        Verdict::Accepted => 0,
-        Verdict::Refused(why) => byte_of(why),
+    match verdict {
+        Ok(()) => 0,
+        Err(why) => byte_of(why),
     }
 }
 
 // One number.
-pub fn tell_value(v: Value, x: &mut u32) -> u8
-    ensures { Told (value_says v) x.old result x.new }
+pub fn tell_value(value: Result<u32, Refusal>, x: &mut u32) -> u8
+    ensures { Told (value_says value) x.old result x.new }
 {
-    match v {
-        Value::Refused(why) => byte_of(why),
-        Value::Is(n) => {
+    match value {
+        Err(why) => byte_of(why),
+        Ok(n) => {
             *x = n;
             0
         }
@@ -58,12 +56,12 @@ pub fn tell_value(v: Value, x: &mut u32) -> u8
 }
 
 // Two numbers.
-pub fn tell_pair(p: Pair, x: &mut u32, y: &mut u32) -> u8
-    ensures { ToldTwo (pair_says p) x.old y.old result x.new y.new }
+pub fn tell_pair(pair: Result<(u32, u32), Refusal>, x: &mut u32, y: &mut u32) -> u8
+    ensures { ToldTwo (pair_says pair) x.old y.old result x.new y.new }
 {
-    match p {
-        Pair::Refused(why) => byte_of(why),
-        Pair::Are(first, second) => {
+    match pair {
+        Err(why) => byte_of(why),
+        Ok((first, second)) => {
             *x = first;
             *y = second;
             0
@@ -72,16 +70,16 @@ pub fn tell_pair(p: Pair, x: &mut u32, y: &mut u32) -> u8
 }
 
 // A cell or none: whether there is one, 1 or 0, beside it.
-pub fn tell_cell(c: CellAt, some: &mut u32, x: &mut u32) -> u8
-    ensures { ToldFound (cell_says c) some.old x.old result some.new x.new }
+pub fn tell_cell(free: Result<Option<Cell>, Refusal>, some: &mut u32, x: &mut u32) -> u8
+    ensures { ToldFound (cell_says free) some.old x.old result some.new x.new }
 {
-    match c {
-        CellAt::Refused(why) => byte_of(why),
-        CellAt::Nothing => {
+    match free {
+        Err(why) => byte_of(why),
+        Ok(None) => {
             *some = 0;
             0
         }
-        CellAt::At(cell) => {
+        Ok(Some(cell)) => {
             *some = 1;
             *x = cell.0;
             0
@@ -90,12 +88,12 @@ pub fn tell_cell(c: CellAt, some: &mut u32, x: &mut u32) -> u8
 }
 
 // A half-facet, and the way that it runs.
-pub fn tell_half(h: HalfAt, x: &mut u32, y: &mut u32) -> u8
-    ensures { ToldTwo (half_says h) x.old y.old result x.new y.new }
+pub fn tell_half(beside: Result<(Half, Way), Refusal>, x: &mut u32, y: &mut u32) -> u8
+    ensures { ToldTwo (half_says beside) x.old y.old result x.new y.new }
 {
-    match h {
-        HalfAt::Refused(why) => byte_of(why),
-        HalfAt::At(half, way) => {
+    match beside {
+        Err(why) => byte_of(why),
+        Ok((half, way)) => {
             *x = half.0;
             *y = way_number(way);
             0
@@ -104,16 +102,16 @@ pub fn tell_half(h: HalfAt, x: &mut u32, y: &mut u32) -> u8
 }
 
 // Yes as 1, no as 0.
-pub fn tell_truth(t: Truth, x: &mut u32) -> u8
-    ensures { Told (truth_says t) x.old result x.new }
+pub fn tell_truth(truth: Result<bool, Refusal>, x: &mut u32) -> u8
+    ensures { Told (truth_says truth) x.old result x.new }
 {
-    match t {
-        Truth::Refused(why) => byte_of(why),
-        Truth::Yes => {
+    match truth {
+        Err(why) => byte_of(why),
+        Ok(true) => {
             *x = 1;
             0
         }
-        Truth::No => {
+        Ok(false) => {
             *x = 0;
             0
         }
@@ -121,16 +119,16 @@ pub fn tell_truth(t: Truth, x: &mut u32) -> u8
 }
 
 // A half-facet or none: whether there is one, 1 or 0, beside it.
-pub fn tell_found(f: Found, found: &mut u32, x: &mut u32) -> u8
-    ensures { ToldFound (found_says f) found.old x.old result found.new x.new }
+pub fn tell_found(sought: Result<Option<Half>, Refusal>, found: &mut u32, x: &mut u32) -> u8
+    ensures { ToldFound (found_says sought) found.old x.old result found.new x.new }
 {
-    match f {
-        Found::Refused(why) => byte_of(why),
-        Found::Nothing => {
+    match sought {
+        Err(why) => byte_of(why),
+        Ok(None) => {
             *found = 0;
             0
         }
-        Found::At(first) => {
+        Ok(Some(first)) => {
             *found = 1;
             *x = first.0;
             0
@@ -139,51 +137,51 @@ pub fn tell_found(f: Found, found: &mut u32, x: &mut u32) -> u8
 }
 
 // Built, or the place of the refused record.
-pub fn tell_built(b: Built, x: &mut u32) -> u8
-    ensures { Told (built_says b) x.old result x.new }
+pub fn tell_built(built: Result<(), Unbuilt>, x: &mut u32) -> u8
+    ensures { Told (built_says built) x.old result x.new }
 {
-    match b {
-        Built::Accepted => 0,
-        Built::Refused(why, place) => {
-            *x = place;
-            byte_of(why)
+    match built {
+        Ok(()) => 0,
+        Err(unbuilt) => {
+            *x = unbuilt.place;
+            byte_of(unbuilt.why)
         }
     }
 }
 
 // How many edits were made; all of them, or why the list stopped.
-pub fn tell_edits(e: Edits, made: &mut usize) -> u8
-    ensures { Told (edits_says e) made.old result made.new }
+pub fn tell_edits(edits: Result<usize, Stopped>, made: &mut usize) -> u8
+    ensures { Told (edits_says edits) made.old result made.new }
 {
-    match e {
-        Edits::Made(all) => {
+    match edits {
+        Ok(all) => {
             *made = all;
             0
         }
-        Edits::Stopped(first, why) => {
-            *made = first;
-            byte_of(why)
+        Err(stopped) => {
+            *made = stopped.made;
+            byte_of(stopped.why)
         }
     }
 }
 
 // A measure: the number of its kind beside its float.
-pub fn tell_measure(m: Measured, kind: &mut u32, x: &mut f64) -> u8
-    ensures { ToldMeasure (measure_says m) kind.old x.old result kind.new x.new }
+pub fn tell_measure(measured: Result<Measured, Refusal>, kind: &mut u32, x: &mut f64) -> u8
+    ensures { ToldMeasure (measure_says measured) kind.old x.old result kind.new x.new }
 {
-    match m {
-        Measured::Refused(why) => byte_of(why),
-        Measured::SquaredLength(size) => {
+    match measured {
+        Err(why) => byte_of(why),
+        Ok(Measured::SquaredLength(size)) => {
             *kind = 1;
             *x = size;
             0
         }
-        Measured::DoubledArea(size) => {
+        Ok(Measured::DoubledArea(size)) => {
             *kind = 2;
             *x = size;
             0
         }
-        Measured::SixfoldVolume(size) => {
+        Ok(Measured::SixfoldVolume(size)) => {
             *kind = 3;
             *x = size;
             0
@@ -192,12 +190,12 @@ pub fn tell_measure(m: Measured, kind: &mut u32, x: &mut f64) -> u8
 }
 
 // A centre: the three floats of its point.
-pub fn tell_centre(c: Centred, x: &mut f64, y: &mut f64, z: &mut f64) -> u8
-    ensures { ToldPoint (centre_says c) x.old y.old z.old result x.new y.new z.new }
+pub fn tell_centre(centred: Result<Point, Refusal>, x: &mut f64, y: &mut f64, z: &mut f64) -> u8
+    ensures { ToldPoint (centre_says centred) x.old y.old z.old result x.new y.new z.new }
 {
-    match c {
-        Centred::Refused(why) => byte_of(why),
-        Centred::At(point) => {
+    match centred {
+        Err(why) => byte_of(why),
+        Ok(point) => {
             *x = point.x;
             *y = point.y;
             *z = point.z;
@@ -213,16 +211,16 @@ const OFF_BROKEN: u8 = 17;
 const NOT_SURFACE: u8 = 18;
 
 // A surface read, or the place where the text or a face is refused.
-pub fn tell_surfaced(s: Surfaced, x: &mut usize) -> u8
+pub fn tell_surfaced(s: Result<(), NotRead>, x: &mut usize) -> u8
     ensures { Told (surfaced_says s) x.old result x.new }
 {
     match s {
-        Surfaced::Accepted => 0,
-        Surfaced::Broken(byte) => {
+        Ok(()) => 0,
+        Err(NotRead::Broken(byte)) => {
             *x = byte;
             OFF_BROKEN
         }
-        Surfaced::Refused(why, face) => {
+        Err(NotRead::Refused(why, face)) => {
             *x = face as usize;
             byte_of(why)
         }
@@ -230,29 +228,29 @@ pub fn tell_surfaced(s: Surfaced, x: &mut usize) -> u8
 }
 
 // The bytes of a text that is written.
-pub fn tell_written(t: Written, x: &mut usize) -> u8
+pub fn tell_written(t: Result<usize, NotWritten>, x: &mut usize) -> u8
     ensures { Told (written_says t) x.old result x.new }
 {
     match t {
-        Written::Length(bytes) => {
+        Ok(bytes) => {
             *x = bytes;
             0
         }
-        Written::NotSurface => NOT_SURFACE,
-        Written::Refused(why) => byte_of(why),
+        Err(NotWritten::NotSurface) => NOT_SURFACE,
+        Err(NotWritten::Refused(why)) => byte_of(why),
     }
 }
 
 // The words of a plan.
-pub fn tell_proposal(p: Proposal, x: &mut usize) -> u8
-    ensures { Told (proposal_says p) x.old result x.new }
+pub fn tell_proposal(proposal: Result<usize, Refusal>, x: &mut usize) -> u8
+    ensures { Told (proposal_says proposal) x.old result x.new }
 {
-    match p {
-        Proposal::Words(words) => {
+    match proposal {
+        Ok(words) => {
             *x = words;
             0
         }
-        Proposal::Refused(why) => byte_of(why),
+        Err(why) => byte_of(why),
     }
 }
 
@@ -260,15 +258,15 @@ pub fn tell_proposal(p: Proposal, x: &mut usize) -> u8
 const PLAN_WRONG: u8 = 24;
 
 // A plan that is right, or the place of its first wrong edit.
-pub fn tell_planned(p: Planned, x: &mut usize) -> u8
-    ensures { Told (planned_says p) x.old result x.new }
+pub fn tell_planned(planned: Result<(), Flaw>, x: &mut usize) -> u8
+    ensures { Told (planned_says planned) x.old result x.new }
 {
-    match p {
-        Planned::Yes => 0,
-        Planned::Wrong(edit) => {
+    match planned {
+        Ok(()) => 0,
+        Err(Flaw::Wrong(edit)) => {
             *x = edit;
             PLAN_WRONG
         }
-        Planned::Refused(why) => byte_of(why),
+        Err(Flaw::Refused(why)) => byte_of(why),
     }
 }

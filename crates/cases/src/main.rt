@@ -5,17 +5,14 @@
 #![tactic(auto)]
 
 use ask::{
-    Step, Walker, border, capacities, count_of_type, edition, first_anchor, free, marks_of,
-    sibling, type_of,
+    Walker, border, capacities, count_of_type, edition, first_anchor, free, marks_of, sibling,
+    type_of,
 };
 use build::build_edition;
 use edits::{Tally, make_edits, tallied};
 use format::{format, format_edition};
 use listing::{anchors, cells_of_type, cycle, live, lookup, neighbours, star};
-use map::{
-    Built, CellAt, Edits, Found, HalfAt, Pair, Refusal, Truth, Value, Verdict, Way, number_of,
-    way_number,
-};
+use map::{Refusal, Stopped, Unbuilt, Way, number_of, way_number};
 use mesh::{insert, insert_licensed, remove};
 use numbers::{Cell, FIRST_EDITION, Half, Mark, SECOND_EDITION, half_of};
 use std::io;
@@ -251,17 +248,17 @@ fn say_numbers(rt: &impl Print, list: &[u32], n: usize) -> io::Result<()> {
     Ok(())
 }
 
-fn say_verdict(rt: &impl Print, v: Verdict) -> io::Result<()> {
+fn say_verdict(rt: &impl Print, v: Result<(), Refusal>) -> io::Result<()> {
     match v {
-        Verdict::Accepted => say(rt, " accepted"),
-        Verdict::Refused(why) => say_refusal(rt, why),
+        Ok(()) => say(rt, " accepted"),
+        Err(why) => say_refusal(rt, why),
     }
 }
 
-fn say_built(rt: &impl Print, b: Built) -> io::Result<()> {
+fn say_built(rt: &impl Print, b: Result<(), Unbuilt>) -> io::Result<()> {
     match b {
-        Built::Accepted => say(rt, " accepted"),
-        Built::Refused(why, place) => {
+        Ok(()) => say(rt, " accepted"),
+        Err(Unbuilt { why, place }) => {
             say_refusal(rt, why)?;
             say(rt, " record")?;
             say_number(rt, place)
@@ -269,35 +266,35 @@ fn say_built(rt: &impl Print, b: Built) -> io::Result<()> {
     }
 }
 
-fn say_value(rt: &impl Print, v: Value) -> io::Result<()> {
+fn say_value(rt: &impl Print, v: Result<u32, Refusal>) -> io::Result<()> {
     match v {
-        Value::Is(n) => say_number(rt, n),
-        Value::Refused(why) => say_refusal(rt, why),
+        Ok(n) => say_number(rt, n),
+        Err(why) => say_refusal(rt, why),
     }
 }
 
-fn say_pair(rt: &impl Print, p: Pair) -> io::Result<()> {
+fn say_pair(rt: &impl Print, p: Result<(u32, u32), Refusal>) -> io::Result<()> {
     match p {
-        Pair::Are(first, second) => {
+        Ok((first, second)) => {
             say_number(rt, first)?;
             say_number(rt, second)
         }
-        Pair::Refused(why) => say_refusal(rt, why),
+        Err(why) => say_refusal(rt, why),
     }
 }
 
-fn say_cell(rt: &impl Print, c: CellAt) -> io::Result<()> {
+fn say_cell(rt: &impl Print, c: Result<Option<Cell>, Refusal>) -> io::Result<()> {
     match c {
-        CellAt::At(cell) => say_number(rt, cell.0),
-        CellAt::Nothing => say(rt, " none"),
-        CellAt::Refused(why) => say_refusal(rt, why),
+        Ok(Some(cell)) => say_number(rt, cell.0),
+        Ok(None) => say(rt, " none"),
+        Err(why) => say_refusal(rt, why),
     }
 }
 
-fn say_list(rt: &impl Print, v: Value, list: &[u32]) -> io::Result<()> {
+fn say_list(rt: &impl Print, v: Result<u32, Refusal>, list: &[u32]) -> io::Result<()> {
     match v {
-        Value::Is(n) => say_numbers(rt, list, n as usize),
-        Value::Refused(why) => say_refusal(rt, why),
+        Ok(n) => say_numbers(rt, list, n as usize),
+        Err(why) => say_refusal(rt, why),
     }
 }
 
@@ -307,47 +304,52 @@ fn say_way(rt: &impl Print, h: Half, way: Way) -> io::Result<()> {
     say_number(rt, way_number(way))
 }
 
-fn say_half(rt: &impl Print, h: HalfAt) -> io::Result<()> {
+fn say_half(rt: &impl Print, h: Result<(Half, Way), Refusal>) -> io::Result<()> {
     match h {
-        HalfAt::At(x, way) => say_way(rt, x, way),
-        HalfAt::Refused(why) => say_refusal(rt, why),
+        Ok((x, way)) => say_way(rt, x, way),
+        Err(why) => say_refusal(rt, why),
     }
 }
 
 // A cycle, and the ways beside it.
-fn say_cycle(rt: &impl Print, v: Value, list: &[u32], ways: &[u32]) -> io::Result<()> {
+fn say_cycle(
+    rt: &impl Print,
+    v: Result<u32, Refusal>,
+    list: &[u32],
+    ways: &[u32],
+) -> io::Result<()> {
     match v {
-        Value::Is(n) => {
+        Ok(n) => {
             say_numbers(rt, list, n as usize)?;
             say(rt, ", ways")?;
             say_numbers(rt, ways, n as usize)
         }
-        Value::Refused(why) => say_refusal(rt, why),
+        Err(why) => say_refusal(rt, why),
     }
 }
 
-fn say_found(rt: &impl Print, f: Found) -> io::Result<()> {
-    if let Found::Refused(why) = f {
+fn say_found(rt: &impl Print, f: Result<Option<Half>, Refusal>) -> io::Result<()> {
+    if let Err(why) = f {
         return say_refusal(rt, why);
     }
-    let Found::At(h) = f else {
+    let Ok(Some(h)) = f else {
         return say(rt, " none");
     };
     say_number(rt, h.0)
 }
 
-fn say_truth(rt: &impl Print, t: Truth) -> io::Result<()> {
+fn say_truth(rt: &impl Print, t: Result<bool, Refusal>) -> io::Result<()> {
     match t {
-        Truth::Yes => say(rt, " yes"),
-        Truth::No => say(rt, " no"),
-        Truth::Refused(why) => say_refusal(rt, why),
+        Ok(true) => say(rt, " yes"),
+        Ok(false) => say(rt, " no"),
+        Err(why) => say_refusal(rt, why),
     }
 }
 
-fn say_step(rt: &impl Print, s: Step) -> io::Result<()> {
+fn say_step(rt: &impl Print, s: Result<(Walker, Way), Refusal>) -> io::Result<()> {
     match s {
-        Step::Next(at, way) => say_way(rt, at.0, way),
-        Step::Refused(why) => say_refusal(rt, why),
+        Ok((at, way)) => say_way(rt, at.0, way),
+        Err(why) => say_refusal(rt, why),
     }
 }
 
@@ -596,7 +598,7 @@ fn say_licence(rt: &impl Print, licence: u32) -> io::Result<()> {
 }
 
 // The insert without a licence, where it is 0.
-fn made_insert(w: &mut [u32], c: Cell, t: u32, licence: u32, marks: &[u32]) -> Verdict {
+fn made_insert(w: &mut [u32], c: Cell, t: u32, licence: u32, marks: &[u32]) -> Result<(), Refusal> {
     if licence == 0 {
         return insert(w, c, t, marks);
     }
@@ -652,10 +654,10 @@ fn try_edits(rt: &impl Print, w: &mut [u32], p: u32) -> io::Result<()> {
     Ok(())
 }
 
-fn say_made(rt: &impl Print, m: Edits) -> io::Result<()> {
+fn say_made(rt: &impl Print, m: Result<usize, Stopped>) -> io::Result<()> {
     match m {
-        Edits::Made(n) => say_size(rt, n),
-        Edits::Stopped(n, why) => {
+        Ok(n) => say_size(rt, n),
+        Err(Stopped { made: n, why }) => {
             say_size(rt, n)?;
             say_refusal(rt, why)
         }
@@ -663,7 +665,12 @@ fn say_made(rt: &impl Print, m: Edits) -> io::Result<()> {
 }
 
 // A tally of these counts, and what it is after a list.
-fn say_tally(rt: &impl Print, accepted: u32, refused: u32, made: Edits) -> io::Result<()> {
+fn say_tally(
+    rt: &impl Print,
+    accepted: u32,
+    refused: u32,
+    made: Result<usize, Stopped>,
+) -> io::Result<()> {
     say(rt, ", tally")?;
     say_number(rt, accepted)?;
     say_number(rt, refused)?;
@@ -815,7 +822,7 @@ fn run_none(rt: &impl Print, w: &mut [u32]) -> io::Result<()> {
 
 fn mornings(rt: &impl Print) -> io::Result<()> {
     let mut w = [0u32; 184];
-    format(&mut w, MARKS, CELLS);
+    let _ = format(&mut w, MARKS, CELLS);
     run_made(rt, &mut w)?;
     run_short(rt, &mut w)?;
     run_own(rt, &mut w)?;

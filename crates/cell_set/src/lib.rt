@@ -15,10 +15,7 @@ pub fn has_cell(cells: &[u8], c: Cell) -> bool
     ensures { result ≡ in_set cells.now c.0 }
 {
     let at = c.0 as usize;
-    if cells.len() <= at {
-        return false;
-    }
-    cells[at] == 1
+    at < cells.len() && cells[at] == 1
 }
 
 // The cell added to the set.
@@ -26,8 +23,7 @@ pub fn put_cell(cells: &mut [u8], c: Cell)
     ensures { cells.new ≡ set cells.old c.0 1 }
 {
     let at = c.0 as usize;
-    if cells.len() <= at {
-        return;
+    if at < cells.len() {
+        cells[at] = 1;
     }
-    cells[at] = 1;
 }

@@ -4,8 +4,7 @@ use mathlib.Core.Bool.{Bool, true, false, cond, ◌&&◌}
 use mathlib.Core.List.{List}
 use Prim.Native.Nat.{ℕ, zero, suc, ◌*◌, ◌/◌, ◌%◌, ◌<◌, ◌≤◌}
 use native.Mathlib.Omega.{arith}
-use borrow.Author.Tests.{lt-leb}
-use lib.Dec.{leb, ltb}
+use lib.Dec.{ltb}
 use lib.ListN.{length}
 use Rattle.lists.specs.Lists.{place}
 use Rattle.numbers.specs.declared.Caps.{Caps}
@@ -53,10 +52,6 @@ module _ (w : List ℕ) (caps : Caps) where
   inner_behind y i x f e inner s p l =
       let low : i / 8 < caps.cells = omega (arith, inner s p l) in
       rw (e ∙ p.words (InCell (i / 8) (Link (i % 8))) (low, omega arith)) (word_low caps s l (i / 8) (i % 8))
-
--- a number that is at most so large leads to a cell
-pub beyond_not : (cells y i : ℕ) → y ≡ suc i → y ≤ 8 * cells → leb cells (i / 8) ≡ false
-beyond_not cells y i e h = lt-leb cells (i / 8) (omega (arith, e, h))
 
 -- on well-formed memory no chain leads out
 pub wf_inside : (w : List ℕ) (caps : Caps) (r : Bool) → Inside w caps r → (m : Map) → m.caps ≡ caps → Wf w m → r ≡ false

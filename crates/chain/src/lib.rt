@@ -31,18 +31,16 @@ pub struct Spot {
 pub fn gather(w: &[u32], caps: Caps, v: Mark, out: &mut [u32]) -> u32
     ensures { Gathered w.now caps v.0 out.old result out.new }
 {
-    let mut n: u32 = 0;
     let mut link = first_of(w, caps, v);
-    while n < MOST_AROUND {
+    for n in 0..MOST_AROUND {
         if link == 0 {
             return n;
         }
         let at = link - 1;
         put(out, n as usize, at / 8);
         link = link_of(w, caps, Cell(at / 8), at % 8);
-        n += 1;
     }
-    n
+    MOST_AROUND
 }
 
 // The spot of cell c in the chain of the mark v, whether or not c stands in it.
@@ -51,8 +49,7 @@ pub fn find(w: &[u32], caps: Caps, v: Mark, c: Cell) -> Spot
 {
     let mut before: u32 = 0;
     let mut after = first_of(w, caps, v);
-    let mut n: u32 = 0;
-    while n < MOST_AROUND {
+    for _ in 0..MOST_AROUND {
         if after == 0 {
             return Spot { before, after };
         }
@@ -62,7 +59,6 @@ pub fn find(w: &[u32], caps: Caps, v: Mark, c: Cell) -> Spot
         }
         before = after;
         after = link_of(w, caps, Cell(at / 8), at % 8);
-        n += 1;
     }
     Spot { before, after }
 }
@@ -92,10 +88,7 @@ fn behind(w: &[u32], caps: Caps, link: u32) -> u32
 fn beyond(caps: Caps, link: u32) -> bool
     ensures { link ≤ 8 * caps.cells → result ≡ false }
 {
-    if link == 0 {
-        return false;
-    }
-    caps.cells <= (link - 1) / 8
+    link != 0 && caps.cells <= (link - 1) / 8
 }
 
 // Whether a chain of the first three marks leads to no cell's number, as none of a mesh does. The three are walked side by side, so that no read
@@ -106,23 +99,15 @@ pub fn leads_out(w: &[u32], caps: Caps, marks: &[u32]) -> bool
     let mut a = entry(w, caps, Mark(word(marks, 0)));
     let mut b = entry(w, caps, Mark(word(marks, 1)));
     let mut c = entry(w, caps, Mark(word(marks, 2)));
-    let mut n: u32 = 0;
-    while n < MOST_STEPS {
+    for _ in 0..MOST_STEPS {
         if a == 0 && b == 0 && c == 0 {
             return false;
         }
         a = behind(w, caps, a);
         b = behind(w, caps, b);
         c = behind(w, caps, c);
-        n += 1;
     }
-    if beyond(caps, a) {
-        return true;
-    }
-    if beyond(caps, b) {
-        return true;
-    }
-    beyond(caps, c)
+    beyond(caps, a) || beyond(caps, b) || beyond(caps, c)
 }
 
 // The word that leads on from a link of the chain of v, or into the chain where that is 0, written.

@@ -8,7 +8,8 @@ use borrow.Author.Tests.{le-leb, eq-eqb}
 use lib.ListN.{length}
 use Rattle.numbers.specs.declared.Caps.{Caps}
 use Rattle.numbers.specs.Sizes.{most_capacity}
-use Rattle.store.specs.declared.Opened.TheVariants.{Mesh, Nothing}
+use Rattle.map.specs.declared.Refusal.TheVariants.{NotMesh}
+use Rattle.std.specs.Prelude.{Ok, Err}
 use Rattle.store.specs.Layout.{room, magic}
 use Rattle.store.specs.Fields.{Magic, MarkCap, CellCap, Edition}
 use Rattle.store.specs.Slots.{InHead, address, read}
@@ -18,19 +19,19 @@ use Rattle.picture.specs.Picture.{word_of, head_word, Wf}
 
 module _ (w : List ℕ) where
   -- opened or not
-  pub nothing_opened : Nothing ≡ opened w → is_mesh w ≡ false
+  pub nothing_opened : (Err NotMesh) ≡ opened w → is_mesh w ≡ false
   unfolding opened
   nothing_opened e = go (is_mesh w) e
     where
-      go : (b : Bool) → Nothing ≡ cond b (Mesh (caps_in w)) Nothing → b ≡ false
+      go : (b : Bool) → (Err NotMesh) ≡ cond b (Ok (caps_in w)) (Err NotMesh) → b ≡ false
       go true e = absurd (let z : ◌≡◌ {A = ℕ} 0 1 = cc in omega arith)
       go false e = refl
 
-  pub mesh_opened : (caps : Caps) → Mesh caps ≡ opened w → (is_mesh w ≡ true) × (caps ≡ caps_in w)
+  pub mesh_opened : (caps : Caps) → Ok caps ≡ opened w → (is_mesh w ≡ true) × (caps ≡ caps_in w)
   unfolding opened
   mesh_opened caps e = go (is_mesh w) e
     where
-      go : (b : Bool) → Mesh caps ≡ cond b (Mesh (caps_in w)) Nothing → (b ≡ true) × (caps ≡ caps_in w)
+      go : (b : Bool) → Ok caps ≡ cond b (Ok (caps_in w)) (Err NotMesh) → (b ≡ true) × (caps ≡ caps_in w)
       go true e = (refl, cc)
       go false e = absurd (let z : ◌≡◌ {A = ℕ} 0 1 = cc in omega arith)
 
@@ -67,6 +68,6 @@ module _ (w : List ℕ) where
           le-leb (room m.caps.marks m.caps.cells) (length w) wf.picture.fits,
         )
 
-    pub wf_caps : (caps : Caps) → Mesh caps ≡ opened w → m.caps ≡ caps
+    pub wf_caps : (caps : Caps) → Ok caps ≡ opened w → m.caps ≡ caps
     unfolding caps_in
     wf_caps caps e = rw (← head_marks, ← head_cells, ← head_edition) (sym (mesh_opened caps e).1)

@@ -16,8 +16,8 @@ use Rattle.numbers.specs.declared.Caps.{Caps}
 use Rattle.map.specs.Cells.{Map, live}
 use Rattle.map.specs.Answers.{Check, ◌when◌, cell_checks, half_checks, star_checks, set_checks, type_checks}
 use Rattle.map.specs.Says.{verdict_says}
-use Rattle.map.specs.declared.Verdict.{Verdict}
-use Rattle.map.specs.declared.Verdict.TheVariants.{Accepted}
+use Rattle.map.specs.declared.Refusal.{Refusal}
+use Rattle.std.specs.Prelude.{Result, ⊤, Ok}
 use Rattle.picture.specs.Picture.{Wf}
 use Rattle.checks.specs.Checked.{Checked}
 use Rattle.checks.proofs.Values.{Numbered, all_pass}
@@ -43,12 +43,12 @@ pub set_numbered : (m : Map) (set : List ℕ) → Numbered (set_checks m set)
 unfolding set_checks ◌when◌ all
 set_numbered m set = refl
 
-accepted : (w : List ℕ) (caps : Caps) (checks : Map → List Check) (r : Verdict) → Checked w caps checks r → r ≡ Accepted
+accepted : (w : List ℕ) (caps : Caps) (checks : Map → List Check) (r : Result ⊤ Refusal) → Checked w caps checks r → r ≡ (Ok tt)
     → (m : Map) → m.caps ≡ caps → Wf w m → Numbered (checks m) → all (λ (c : Check). not c.fails) (checks m) ≡ true
 unfolding verdict_says
 accepted w caps checks r k v m e wf n = all_pass (checks m) n (ap verdict_says (sym v) ∙ k.says m e wf)
 
-module _ (w : List ℕ) (caps : Caps) (r : Verdict) (v : r ≡ Accepted) (m : Map) (e : m.caps ≡ caps) (wf : Wf w m) where
+module _ (w : List ℕ) (caps : Caps) (r : Result ⊤ Refusal) (v : r ≡ (Ok tt)) (m : Map) (e : m.caps ≡ caps) (wf : Wf w m) where
   pub cell_passed : (c : ℕ) → Checked w caps (λ m. cell_checks m c) r → (c < m.caps.cells) × (live m c ≡ true)
   unfolding cell_checks ◌when◌ all
   cell_passed c k =

@@ -18,7 +18,7 @@ use Rattle.map.specs.Cells.{Map, live}
 use Rattle.map.specs.Answers.{◌when◌, answer, cell_checks, half_checks, star_checks, set_checks, type_checks}
 use Rattle.map.specs.Says.{given, refused, verdict_says}
 use Rattle.map.specs.declared.Refusal.TheVariants.{CellOutside, CellNotLive, TypeUnknown, CountWrong, MarkOutside, MarkTwice, FacetOutside}
-use Rattle.map.specs.declared.Verdict.TheVariants.{Accepted, Refused}
+use Rattle.std.specs.Prelude.{Ok, Err}
 use Rattle.picture.specs.State.{state_of}
 use Rattle.picture.specs.Picture.{Wf}
 use Rattle.picture.proofs.Record.{code_read, licence_read, marks_read}
@@ -52,7 +52,7 @@ module _ (caps : Caps) (m : Map) (e : m.caps ≡ caps) where
       ∙ marks_read w caps (state_of m) (wf_pic w caps m e wf) c h (omega (arith, wf.sound.fitting c, (facts (m.at c).code).marks))
 
 module _ (w : List ℕ) (caps : Caps) (c : ℕ) where
-  pub cell_outside : caps.cells ≤ c → Checked w caps (λ m. cell_checks m c) (Refused CellOutside)
+  pub cell_outside : caps.cells ≤ c → Checked w caps (λ m. cell_checks m c) (Err CellOutside)
   unfolding cell_checks ◌when◌ answer verdict_says refused
   cell_outside h = record { says = λ m e wf. rw (le-leb m.caps.cells c (omega (arith, cells_of_lem caps m e))) }
 
@@ -71,81 +71,81 @@ module _ (w : List ℕ) (caps : Caps) (c : ℕ) where
     below : (m : Map) → m.caps ≡ caps → leb m.caps.cells c ≡ false
     below m e = lt-leb m.caps.cells c (omega (arith, cells_of_lem caps m e))
 
-    pub cell_dead : t ≡ 0 → Checked w caps (λ m. cell_checks m c) (Refused CellNotLive)
+    pub cell_dead : t ≡ 0 → Checked w caps (λ m. cell_checks m c) (Err CellNotLive)
     unfolding cell_checks ◌when◌ answer verdict_says refused
     cell_dead z = record { says = λ m e wf. rw (below m e, dead m e wf z) }
 
-    pub cell_live : (t ≡ 0 → ⊥) → Checked w caps (λ m. cell_checks m c) Accepted
+    pub cell_live : (t ≡ 0 → ⊥) → Checked w caps (λ m. cell_checks m c) (Ok tt)
     unfolding cell_checks ◌when◌ answer verdict_says given
     cell_live ne = record { says = λ m e wf. rw (below m e, alive m e wf ne) }
 
     module _ (f n : ℕ) (count : n ≡ facet_count t) where
-      pub half_dead : t ≡ 0 → Checked w caps (λ m. half_checks m c f) (Refused CellNotLive)
+      pub half_dead : t ≡ 0 → Checked w caps (λ m. half_checks m c f) (Err CellNotLive)
       unfolding half_checks cell_checks ◌when◌ answer verdict_says refused
       half_dead z = record { says = λ m e wf. rw (below m e, dead m e wf z) }
 
-      pub half_facet : (t ≡ 0 → ⊥) → n ≤ f → Checked w caps (λ m. half_checks m c f) (Refused FacetOutside)
+      pub half_facet : (t ≡ 0 → ⊥) → n ≤ f → Checked w caps (λ m. half_checks m c f) (Err FacetOutside)
       unfolding half_checks cell_checks ◌when◌ answer verdict_says refused
       half_facet ne less = record
           { says = λ m e wf. rw (below m e, alive m e wf ne, code m e wf, le-leb (facet_count t) f (omega arith)) }
 
-      pub half_live : (t ≡ 0 → ⊥) → f < n → Checked w caps (λ m. half_checks m c f) Accepted
+      pub half_live : (t ≡ 0 → ⊥) → f < n → Checked w caps (λ m. half_checks m c f) (Ok tt)
       unfolding half_checks cell_checks ◌when◌ answer verdict_says given
       half_live ne less = record
           { says = λ m e wf. rw (below m e, alive m e wf ne, code m e wf, lt-leb (facet_count t) f (omega arith)) }
 
-  pub half_outside : (f : ℕ) → caps.cells ≤ c → Checked w caps (λ m. half_checks m c f) (Refused CellOutside)
+  pub half_outside : (f : ℕ) → caps.cells ≤ c → Checked w caps (λ m. half_checks m c f) (Err CellOutside)
   unfolding half_checks cell_checks ◌when◌ answer verdict_says refused
   half_outside f h = record { says = λ m e wf. rw (le-leb m.caps.cells c (omega (arith, cells_of_lem caps m e))) }
 
 module _ (w : List ℕ) (caps : Caps) (d v : ℕ) where
-  pub star_low : d < 1 → Checked w caps (λ m. star_checks m d v) (Refused TypeUnknown)
+  pub star_low : d < 1 → Checked w caps (λ m. star_checks m d v) (Err TypeUnknown)
   unfolding star_checks ◌when◌ answer verdict_says refused
   star_low h = record { says = λ m e wf. rw (lt-ltb d 1 h) }
 
   module _ (low : 1 ≤ d) where
-    pub star_high : 3 < d → Checked w caps (λ m. star_checks m d v) (Refused TypeUnknown)
+    pub star_high : 3 < d → Checked w caps (λ m. star_checks m d v) (Err TypeUnknown)
     unfolding star_checks ◌when◌ answer verdict_says refused
     star_high h = record { says = λ m e wf. rw (le-ltb d 1 low, lt-ltb 3 d h) }
 
     module _ (high : d ≤ 3) where
-      pub star_mark : caps.marks ≤ v → Checked w caps (λ m. star_checks m d v) (Refused MarkOutside)
+      pub star_mark : caps.marks ≤ v → Checked w caps (λ m. star_checks m d v) (Err MarkOutside)
       unfolding star_checks ◌when◌ answer verdict_says refused
       star_mark h = record { says = λ m e wf. rw (le-ltb d 1 low, le-ltb 3 d high, le-leb m.caps.marks v (omega (arith, marks_of_lem caps m e))) }
 
-      pub star_good : v < caps.marks → Checked w caps (λ m. star_checks m d v) Accepted
+      pub star_good : v < caps.marks → Checked w caps (λ m. star_checks m d v) (Ok tt)
       unfolding star_checks ◌when◌ answer verdict_says given
       star_good h = record { says = λ m e wf. rw (le-ltb d 1 low, le-ltb 3 d high, lt-leb m.caps.marks v (omega (arith, marks_of_lem caps m e))) }
 
 module _ (w : List ℕ) (caps : Caps) (t n : ℕ) (kind : n ≡ (shape t).dimension) where
-  pub type_none : n ≡ 0 → Checked w caps (λ m. type_checks t) (Refused TypeUnknown)
+  pub type_none : n ≡ 0 → Checked w caps (λ m. type_checks t) (Err TypeUnknown)
   unfolding type_checks ◌when◌ answer verdict_says refused
   type_none z = record { says = λ m e wf. rw (eq-eqb (shape t).dimension 0 (sym kind ∙ z)) }
 
-  pub type_good : (n ≡ 0 → ⊥) → Checked w caps (λ m. type_checks t) Accepted
+  pub type_good : (n ≡ 0 → ⊥) → Checked w caps (λ m. type_checks t) (Ok tt)
   unfolding type_checks ◌when◌ answer verdict_says given
   type_good ne = record { says = λ m e wf. rw (ne_eqb (shape t).dimension 0 (λ z. ne (kind ∙ z))) }
 
 module _ (w : List ℕ) (caps : Caps) (set : List ℕ) where
-  pub set_none : length set < 1 → Checked w caps (λ m. set_checks m set) (Refused CountWrong)
+  pub set_none : length set < 1 → Checked w caps (λ m. set_checks m set) (Err CountWrong)
   unfolding set_checks ◌when◌ answer verdict_says refused
   set_none h = record { says = λ m e wf. rw (lt-ltb (length set) 1 h) }
 
   module _ (some : 1 ≤ length set) where
-    pub set_many : most_corners < length set → Checked w caps (λ m. set_checks m set) (Refused CountWrong)
+    pub set_many : most_corners < length set → Checked w caps (λ m. set_checks m set) (Err CountWrong)
     unfolding set_checks ◌when◌ answer verdict_says refused
     set_many h = record { says = λ m e wf. rw (le-ltb (length set) 1 some, lt-ltb most_corners (length set) h) }
 
     module _ (few : length set ≤ most_corners) where
-      pub set_outside : any (leb caps.marks) set ≡ true → Checked w caps (λ m. set_checks m set) (Refused MarkOutside)
+      pub set_outside : any (leb caps.marks) set ≡ true → Checked w caps (λ m. set_checks m set) (Err MarkOutside)
       unfolding set_checks ◌when◌ answer verdict_says refused
       set_outside h = record { says = λ m e wf. rw (le-ltb (length set) 1 some, le-ltb most_corners (length set) few, marks_of_lem caps m e, h) }
 
       module _ (inside : any (leb caps.marks) set ≡ false) where
-        pub set_twice : repeats set ≡ true → Checked w caps (λ m. set_checks m set) (Refused MarkTwice)
+        pub set_twice : repeats set ≡ true → Checked w caps (λ m. set_checks m set) (Err MarkTwice)
         unfolding set_checks ◌when◌ answer verdict_says refused
         set_twice h = record { says = λ m e wf. rw (le-ltb (length set) 1 some, le-ltb most_corners (length set) few, marks_of_lem caps m e, inside, h) }
 
-        pub set_good : repeats set ≡ false → Checked w caps (λ m. set_checks m set) Accepted
+        pub set_good : repeats set ≡ false → Checked w caps (λ m. set_checks m set) (Ok tt)
         unfolding set_checks ◌when◌ answer verdict_says given
         set_good h = record { says = λ m e wf. rw (le-ltb (length set) 1 some, le-ltb most_corners (length set) few, marks_of_lem caps m e, inside, h) }

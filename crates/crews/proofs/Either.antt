@@ -12,8 +12,8 @@ use Rattle.store.specs.Slots.{InHead, read}
 use Rattle.map.specs.Cells.{Map, cells_of}
 use Rattle.map.specs.Answers.{Check, Answer}
 use Rattle.map.specs.History.{Edit, edited, history}
-use Rattle.map.specs.declared.Value.{Value}
-use Rattle.map.specs.declared.Verdict.{Verdict}
+use Rattle.map.specs.declared.Refusal.{Refusal}
+use Rattle.std.specs.Prelude.{Result, ⊤}
 use Rattle.map.proofs.Says.{verdict_one}
 use Rattle.laws.proofs.Edits.{edited_caps}
 use Rattle.picture.specs.Picture.{Wf}
@@ -31,15 +31,15 @@ use Rattle.crews.proofs.Answered.{answer_kept}
 use Rattle.crews.proofs.Swapped.{crews_swap, edited_swap}
 
 -- the second of two edits gets the answer that it gets without the first
-second_answer : {w w' w'' : List ℕ} {m : Map} {a b : Edit} {r s : Verdict} → Wf w m → TwoCrews m a b → Edited w a r w' → Edited w' b s w''
-    → {s' : Verdict} {v : List ℕ} → Edited w b s' v → s ≡ s'
+second_answer : {w w' w'' : List ℕ} {m : Map} {a b : Edit} {r s : Result ⊤ Refusal} → Wf w m → TwoCrews m a b → Edited w a r w' → Edited w' b s w''
+    → {s' : Result ⊤ Refusal} {v : List ℕ} → Edited w b s' v → s ≡ s'
 second_answer {m = m} {a} {b} {s = s} wf crews first second {s'} alone =
     verdict_one s s'
     ((second.answers (edited m a) (first.answers m wf).1).0
     ∙ (answer_kept m wf.sound b a (crews_swap crews) ∙ sym (alone.answers m wf).0))
 
 module _ {w : List ℕ} {m : Map} {a b : Edit} (wf : Wf w m) (crews : TwoCrews m a b)
-    {ra rb ra' rb' : Verdict} {w₁ w₂ w₁' w₂' : List ℕ}
+    {ra rb ra' rb' : Result ⊤ Refusal} {w₁ w₂ w₁' w₂' : List ℕ}
     (first : Edited w a ra w₁) (second : Edited w₁ b rb w₂)
     (first' : Edited w b rb' w₁') (second' : Edited w₁' a ra' w₂') where
   -- "each gets the same answer both times"
@@ -63,11 +63,11 @@ module _ {w : List ℕ} {m : Map} {a b : Edit} (wf : Wf w m) (crews : TwoCrews m
   pub crews_handed : {part : Map → List ℕ} {x y : List ℕ} → Handed w₂ part x → Handed w₂' part y → x ≡ y
   crews_handed = handed_alike same_map.0 same_map.1
 
-  pub crews_listed : {checks : Map → List Check} {list : Map → List ℕ} {o o' o'' : List ℕ} {x y : Value}
+  pub crews_listed : {checks : Map → List Check} {list : Map → List ℕ} {o o' o'' : List ℕ} {x y : Result ℕ Refusal}
       → Listing w₂ checks list o x o' → Listing w₂' checks list o y o'' → (x ≡ y) × (o' ≡ o'')
   crews_listed = listed_alike same_map.0 same_map.1
 
-  pub crews_paired : {checks : Map → List Check} {list beside : Map → List ℕ} {o p o' p' o'' p'' : List ℕ} {x y : Value}
+  pub crews_paired : {checks : Map → List Check} {list beside : Map → List ℕ} {o p o' p' o'' p'' : List ℕ} {x y : Result ℕ Refusal}
       → Paired w₂ checks list beside o p x o' p' → Paired w₂' checks list beside o p y o'' p'' → (x ≡ y) × (o' ≡ o'') × (p' ≡ p'')
   crews_paired = paired_alike same_map.0 same_map.1
 

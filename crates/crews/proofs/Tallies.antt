@@ -16,7 +16,8 @@ use Rattle.map.specs.Answers.{Answer}
 use Rattle.map.specs.Says.{edits_says}
 use Rattle.map.specs.History.{Edit, Insert, Remove}
 use Rattle.map.specs.Morning.{insert_turn, remove_turn, turn, Reading, before, read_from, Morning, morning, told}
-use Rattle.map.specs.declared.Edits.{Edits}
+use Rattle.map.specs.declared.Stopped.{Stopped}
+use Rattle.std.specs.Prelude.{Result}
 use Rattle.map.proofs.Says.{edits_one}
 use Rattle.map.specs.Sound.{Sound}
 use Rattle.picture.specs.Picture.{Wf}
@@ -76,7 +77,7 @@ morning_past : (m : Map) → Sound m → (x y : List ℕ) → TwoLists m (edits_
 unfolding morning
 morning_past m s x y lists = lists_past (read_from 0 x).last (read_from 0 y).last m s (edits_in x) (edits_in y) lists
 
-module _ {w x y : List ℕ} {m : Map} (wf : Wf w m) {r s : Edits} {w' w'' : List ℕ} (first : ListEdited w x r w') (second : ListEdited w' y s w'') where
+module _ {w x y : List ℕ} {m : Map} (wf : Wf w m) {r s : Result ℕ Stopped} {w' w'' : List ℕ} (first : ListEdited w x r w') (second : ListEdited w' y s w'') where
   -- after both lists memory is well-formed, of the map that they leave in turn
   after_both : Wf w'' (morning (morning m x).map y).map
   after_both = (second.answers (morning m x).map (first.answers m wf).1).1
@@ -90,7 +91,7 @@ module _ {w x y : List ℕ} {m : Map} (wf : Wf w m) {r s : Edits} {w' w'' : List
       (only_then (rw (head_room w m wf) at first.inside) (rw (head_room w' (morning m x).map (first.answers m wf).1, one) at second.inside))
 
   -- the second list gets the answer that it gets without the first
-  second_told : TwoLists m (edits_in y) (edits_in x) → {s' : Edits} {v : List ℕ} → ListEdited w y s' v → s ≡ s'
+  second_told : TwoLists m (edits_in y) (edits_in x) → {s' : Result ℕ Stopped} {v : List ℕ} → ListEdited w y s' v → s ≡ s'
   unfolding told
   second_told lists {s'} without =
       edits_one s s'
@@ -98,7 +99,7 @@ module _ {w x y : List ℕ} {m : Map} (wf : Wf w m) {r s : Edits} {w' w'' : List
       ∙ (ap told (morning_past m wf.sound y x lists) ∙ sym (without.answers m wf).0))
 
 module _ {w x y : List ℕ} {m : Map} (wf : Wf w m) (lists : TwoLists m (edits_in x) (edits_in y))
-    {rx ry rx' ry' : Edits} {w₁ w₂ w₁' w₂' : List ℕ} {t t₁ t₂ t₁' t₂' : Tally}
+    {rx ry rx' ry' : Result ℕ Stopped} {w₁ w₂ w₁' w₂' : List ℕ} {t t₁ t₂ t₁' t₂' : Tally}
     (first : Tallied w x t rx w₁ t₁) (second : Tallied w₁ y t₁ ry w₂ t₂)
     (first' : Tallied w y t ry' w₁' t₁') (second' : Tallied w₁' x t₁' rx' w₂' t₂') where
   -- each list gets the same answer both times
@@ -128,5 +129,5 @@ module _ {w x y : List ℕ} {m : Map} (wf : Wf w m) (lists : TwoLists m (edits_i
       let here : t₂ ≡ tally_after (tally_after t p) q = second.tally ∙ ap (λ (k : Tally). tally_after k q) first.tally in
       let there : t₂' ≡ tally_after (tally_after t q) p =
       second'.tally
-      ∙ ap₂ tally_after (first'.tally ∙ ap (λ (r : Edits). tally_after t (edits_says r)) (sym same_told.1)) (ap edits_says (sym same_told.0)) in
+      ∙ ap₂ tally_after (first'.tally ∙ ap (λ (r : Result ℕ Stopped). tally_after t (edits_says r)) (sym same_told.1)) (ap edits_says (sym same_told.0)) in
       here ∙ (tally_swap t p q ∙ sym there)

@@ -1,11 +1,11 @@
 -- "two edits on different cell numbers whose cells share no mark"
-use Rattle.std.specs.Prelude.{◌≡◌, true, false, cond, List, [], ◌∷◌, ◌++◌, map, ℕ, eqb}
+use Rattle.std.specs.Prelude.{◌≡◌, true, false, cond, List, [], ◌∷◌, ◌++◌, map, ℕ, eqb, Result}
 use Rattle.lists.specs.Lists.{has}
 use Rattle.map.specs.Cells.{Map}
 use Rattle.map.specs.Says.{edits_says}
 use Rattle.map.specs.History.{Edit, Insert, Remove, cell_of, edit_answer, edited}
 use Rattle.map.specs.Morning.{read_from}
-use Rattle.map.specs.declared.Edits.{Edits}
+use Rattle.map.specs.declared.Stopped.{Stopped}
 use Rattle.edits.specs.Counts.{tally_after}
 use Rattle.edits.specs.InTurn.{ListEdited}
 use Rattle.edits.specs.declared.Tally.{Tally}
@@ -40,6 +40,6 @@ abbrev pub edits_in : List ℕ → List Edit
 edits_in words = (read_from 0 words).edits
 
 -- what `edits` promises: the list made in memory, and the tally after it
-pub record Tallied (w list : List ℕ) (t : Tally) (r : Edits) (w' : List ℕ) (t' : Tally) : Type 0 where
+pub record Tallied (w list : List ℕ) (t : Tally) (r : Result ℕ Stopped) (w' : List ℕ) (t' : Tally) : Type 0 where
   pub made : ListEdited w list r w'
   pub tally : t' ≡ tally_after t (edits_says r)

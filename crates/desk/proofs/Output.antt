@@ -9,13 +9,12 @@ use borrow.Author.Tests.{le-ltb, lt-ltb}
 use lib.Dec.{leb}
 use lib.ListN.{length, take, drop}
 use lib.Seq.{take-take, drop-drop, take-add}
-use Rattle.std.specs.Prelude.{None, is_none, Result, Ok, Err}
+use Rattle.std.specs.Prelude.{None, is_none, Result, Ok, Err, ⊤}
 use Rattle.std.specs.declared.io.Error.{Error}
 use Rattle.numbers.specs.Room.{room}
 use Rattle.words.specs.Words.{part_of}
 use Rattle.words.proofs.Fits.{part_fits, part_none}
-use Rattle.map.specs.declared.Verdict.{Verdict}
-use Rattle.map.specs.declared.Verdict.TheVariants.{Accepted}
+use Rattle.map.specs.declared.Refusal.{Refusal}
 use Rattle.map.specs.Answers.{answer, ◌when◌}
 use Rattle.map.specs.Says.{given, verdict_says}
 use Rattle.map.proofs.Says.{verdict_one}
@@ -192,7 +191,7 @@ unfolding places_of
 thousand words e = ap places_of e
 
 -- from the start on, which is never refused
-pub program_output : (w j s line : List ℕ) (w₀ w' : Memory) (line' : List ℕ) (v : Verdict) (r : Turn) → 15376 ≤ length w → length j ≡ 16016 → 15376 ≤ length s → 65 ≤ length line
+pub program_output : (w j s line : List ℕ) (w₀ w' : Memory) (line' : List ℕ) (v : Result ⊤ Refusal) (r : Turn) → 15376 ≤ length w → length j ≡ 16016 → 15376 ≤ length s → 65 ≤ length line
     → Started (memory w j s) v w₀ → Served w₀ line r w' line' → Ran r
 unfolding output room answer ◌when◌ format_answer verdict_says given
 program_output w j s line w₀ w' line' v r hw hj hs fits started served = record {
@@ -205,5 +204,5 @@ program_output w j s line w₀ w' line' v r hw hj hs fits started served = recor
   ends = stops_ended served.turns;
 }
   where
-    accepted : v ≡ Accepted
-    accepted = verdict_one v Accepted (started.begins.says ∙ rw (le-ltb (length w) 15376 hw, le-ltb (length j) 16 (omega arith), le-ltb (length s) 15376 hs))
+    accepted : v ≡ (Ok tt)
+    accepted = verdict_one v (Ok tt) (started.begins.says ∙ rw (le-ltb (length w) 15376 hw, le-ltb (length j) 16 (omega arith), le-ltb (length s) 15376 hs))

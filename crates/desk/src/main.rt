@@ -164,7 +164,7 @@ fn one_turn(
     after_read(rt, got, at.length, piece, out)
 }
 
-// A proved loop has to end, and nothing says that the input does. So the loop counts its turns down, from a number that no run uses up.
+// A proved loop has to end, and nothing says that the input does. So the turns are bounded, by a number that no run uses up.
 fn serve(
     rt: HostRuntime,
     mesh: &mut [u32],
@@ -187,10 +187,11 @@ fn serve(
         wrote: 0,
         failed: None,
     };
-    let mut turns = u64::MAX;
-    while turns > 0 && at.on {
+    for _ in 0..u64::MAX {
+        if !at.on {
+            return at;
+        }
         at = one_turn(rt, mesh, journal, starting, line, piece, out, at);
-        turns -= 1;
     }
     at
 }
@@ -203,7 +204,7 @@ fn run(rt: HostRuntime) -> Turn
     let mut journal = [0u32; 16016];
     let mut starting = [0u32; 15376];
     let mut line = [0u8; 65];
-    start(&mut mesh, &mut journal, &mut starting);
+    let _ = start(&mut mesh, &mut journal, &mut starting);
     serve(rt, &mut mesh, &mut journal, &mut starting, &mut line)
 }
 

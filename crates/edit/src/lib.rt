@@ -23,13 +23,11 @@ use words::word;
 pub fn relink_all(w: &mut [u32], caps: Caps, c: Cell, marks: &[u32], on: bool)
     ensures { Step caps w.old w.new (MayLinks caps c.0 marks.now on) (λ s. with_links s c.0 marks.now on) }
 {
-    let mut k: u32 = 0;
-    while k < MOST_MARKS {
+    for k in 0..MOST_MARKS {
         if marks.len() <= k as usize {
             return;
         }
         relink(w, caps, Mark(word(marks, k as usize)), k, c, on);
-        k += 1;
     }
 }
 
@@ -37,9 +35,7 @@ pub fn relink_all(w: &mut [u32], caps: Caps, c: Cell, marks: &[u32], on: bool)
 pub fn clear_siblings(w: &mut [u32], caps: Caps, c: Cell)
     ensures { Step caps w.old w.new (λ s. c.0 < caps.cells) (λ s. cleared s c.0) }
 {
-    let mut f: u32 = 0;
-    while f < MOST_FACETS {
+    for f in 0..MOST_FACETS {
         put_sibling(w, caps, half_of(c, f), Half(0), Way::Lone);
-        f += 1;
     }
 }

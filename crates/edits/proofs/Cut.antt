@@ -15,7 +15,9 @@ use Rattle.words.specs.Words.{Only}
 use Rattle.words.proofs.Frame.{only_none}
 use Rattle.store.specs.Slots.{address, read}
 use Rattle.store.specs.Open.{room_in, caps_in, is_mesh, opened}
-use Rattle.store.specs.declared.Opened.TheVariants.{Mesh, Nothing}
+use Rattle.map.specs.Says.{StoppedAt}
+use Rattle.map.specs.declared.Stopped.{Stopped}
+use Rattle.std.specs.Prelude.{Result, Ok, Err}
 use Rattle.store.proofs.Slots.{slot_below}
 use Rattle.map.specs.Cells.{Map}
 use Rattle.map.specs.declared.Refusal.TheVariants.{NotMesh}
@@ -23,8 +25,6 @@ use Rattle.picture.specs.Picture.{Wf}
 use Rattle.checks.proofs.Opens.{nothing_opened, mesh_opened, head_marks, head_cells, wf_mesh}
 use Rattle.map.specs.Morning.{read_from, morning}
 use Rattle.edits.specs.InTurn.{InTurn, ListEdited}
-use Rattle.map.specs.declared.Edits.{Edits}
-use Rattle.map.specs.declared.Edits.TheVariants.{Stopped}
 use Rattle.edits.proofs.Wellformed.{in_turn_wf, in_turn_size}
 
 abbrev pub room_of : Map → ℕ
@@ -83,7 +83,7 @@ mesh_fits w yes' = go (dec_lt (length w) (room_in w))
 pub head_room : (w : List ℕ) (m : Map) → Wf w m → room_in w ≡ room_of m
 head_room w m wf = rw (head_marks w m wf, head_cells w m wf)
 
-pub edits_none : (w list : List ℕ) → Nothing ≡ opened w → ListEdited w list (Stopped 0 NotMesh) w
+pub edits_none : (w list : List ℕ) → (Err NotMesh) ≡ opened w → ListEdited w list (StoppedAt 0 NotMesh) w
 edits_none w list e = record {
   refused = λ n. (refl, refl);
   inside = only_none;
@@ -91,7 +91,7 @@ edits_none w list e = record {
   answers = λ m wf. absurd (clash (wf_mesh w m wf) (nothing_opened w e));
 }
 
-module _ (w : List ℕ) (caps : Caps) (opens : Mesh caps ≡ opened w) (k : ℕ) (ek : k ≡ room caps.marks caps.cells) where
+module _ (w : List ℕ) (caps : Caps) (opens : Ok caps ≡ opened w) (k : ℕ) (ek : k ≡ room caps.marks caps.cells) where
   cut_room : k ≡ room_in w
   unfolding caps_in
   cut_room = ek ∙ ap (λ (c : Caps). room c.marks c.cells) (mesh_opened w caps opens).1
@@ -102,7 +102,7 @@ module _ (w : List ℕ) (caps : Caps) (opens : Mesh caps ≡ opened w) (k : ℕ)
   cut_length : length (take k w) ≡ k
   cut_length = length-take-le k w cut_fits
 
-  pub edits_made : (list : List ℕ) (r : Edits) (x : List ℕ) → InTurn (take k w) (read_from 0 list).edits (read_from 0 list).last r x
+  pub edits_made : (list : List ℕ) (r : Result ℕ Stopped) (x : List ℕ) → InTurn (take k w) (read_from 0 list).edits (read_from 0 list).last r x
       → ListEdited w list r (x ++ drop k w)
   unfolding morning
   edits_made list r x did = record {

@@ -17,7 +17,8 @@ use Rattle.laws.proofs.Edits.{may_insert}
 use Rattle.map.specs.Morning.{Is, Not, insert_turn, remove_turn, turn, Reading, before, read_from, Morning, one_more, in_turn, morning}
 use Rattle.edits.specs.InTurn as T
 use Rattle.edits.specs.InTurn.{made_of, InTurn, ListEdited}
-use Rattle.map.specs.declared.Edits.{Edits}
+use Rattle.map.specs.declared.Stopped.{Stopped}
+use Rattle.std.specs.Prelude.{Result}
 use Rattle.edits.proofs.Turns.{read_none, read_on, read_edit}
 use Rattle.edits.proofs.Wellformed.{turn_made, turn_refused}
 use Rattle.edits.proofs.Runs.{made_more}
@@ -94,14 +95,14 @@ read_half zero (kind ∷ words) = go (λ n. read_half n words) (at_turn kind wor
     go h (not n some e) = rw (e, read_from) (omega arith)
     go h (is e n q long some same) = rw (q, read_from) (omega (arith, h n))
 
-in_turn_few : {w w' : List ℕ} {es : List Edit} {last : ℕ} {r : Edits} → InTurn w es last r w' → made_of r ≤ length es
+in_turn_few : {w w' : List ℕ} {es : List Edit} {last : ℕ} {r : Result ℕ Stopped} → InTurn w es last r w' → made_of r ≤ length es
 in_turn_few T.all = omega arith
 in_turn_few (T.none why) = omega arith
 in_turn_few (T.refused why did) = omega arith
 in_turn_few (T.made {r = r} did rest) = let h = in_turn_few rest in omega (arith, made_more r)
 
 -- so the number made is at most half the words, on any memory
-pub edits_half : {w list w' : List ℕ} {r : Edits} → ListEdited w list r w' → 2 * made_of r ≤ length list
+pub edits_half : {w list w' : List ℕ} {r : Result ℕ Stopped} → ListEdited w list r w' → 2 * made_of r ≤ length list
 edits_half {w} {list} {r = r} did = go (is_mesh w) refl
   where
     go : (b : Bool) → is_mesh w ≡ b → 2 * made_of r ≤ length list

@@ -14,9 +14,10 @@ use Rattle.store.specs.Open.{room_in, is_mesh}
 use Rattle.map.specs.Cells.{Map}
 use Rattle.map.specs.Answers.{Answer}
 use Rattle.map.specs.History.{Edit, edit_answer, changed, edited, history}
-use Rattle.map.specs.Says.{given, verdict_says, edits_says}
-use Rattle.map.specs.declared.Verdict.{Verdict}
-use Rattle.map.specs.declared.Verdict.TheVariants as Verdict'
+use Rattle.map.specs.Says.{given, verdict_says, edits_says, StoppedAt}
+use Rattle.map.specs.declared.Stopped.{Stopped}
+use Rattle.map.specs.declared.Refusal.{Refusal}
+use Rattle.std.specs.Prelude.{Result, ⊤, Ok, Err}
 use Rattle.laws.proofs.Edits.{edited_changed, changed_caps}
 use Rattle.picture.specs.Picture.{Wf}
 use Rattle.checks.proofs.Opens.{wf_mesh}
@@ -26,29 +27,27 @@ use Rattle.mesh.specs.Run.{Run}
 use Rattle.map.specs.Morning.{read_from, Morning, in_turn, morning, told}
 use Rattle.edits.specs.InTurn as T
 use Rattle.edits.specs.InTurn.{made_of, one_more, InTurn, ListEdited}
-use Rattle.map.specs.declared.Edits.{Edits}
-use Rattle.map.specs.declared.Edits.TheVariants.{Made, Stopped}
 use Rattle.edits.proofs.Wellformed.{turn_made, turn_refused, in_turn_size}
 use Rattle.edits.proofs.Cut.{room_of, joined_inside, wf_joined, wf_cut, mesh_fits, head_room}
 
-pub made_more : (r : Edits) → made_of (one_more r) ≡ suc (made_of r)
-made_more (Made n) = refl
-made_more (Stopped n why) = refl
+pub made_more : (r : Result ℕ Stopped) → made_of (one_more r) ≡ suc (made_of r)
+made_more (Ok n) = refl
+made_more (Err e) = refl
 
-pub made_said : (r : Edits) → made_of r ≡ first 0 (edits_says r).values
+pub made_said : (r : Result ℕ Stopped) → made_of r ≡ first 0 (edits_says r).values
 unfolding edits_says given first
-made_said (Made n) = refl
-made_said (Stopped n why) = refl
+made_said (Ok n) = refl
+made_said (Err e) = refl
 
 -- the edits that were made, one after another, in any memory
-pub in_turn_run : {w w' : List ℕ} {es : List Edit} {last : ℕ} {r : Edits} → InTurn w es last r w' → Run w (take (made_of r) es) w'
+pub in_turn_run : {w w' : List ℕ} {es : List Edit} {last : ℕ} {r : Result ℕ Stopped} → InTurn w es last r w' → Run w (take (made_of r) es) w'
 in_turn_run T.all = R.done
 in_turn_run (T.none why) = R.done
 in_turn_run {w} (T.refused why did) = rw (did.kept why refl) R.done
-in_turn_run (T.made {r = r} did rest) = rw (made_more r) (R.then Verdict'.Accepted did (in_turn_run rest))
+in_turn_run (T.made {r = r} did rest) = rw (made_more r) (R.then (Ok tt) did (in_turn_run rest))
 
 -- an edit in the words of the room is one in all words
-edit_joined : (x x' rest : List ℕ) (e : Edit) (v : Verdict) (m : Map) → Wf x m → length x ≡ room_of m → Edited x e v x' → Edited (x ++ rest) e v (x' ++ rest)
+edit_joined : (x x' rest : List ℕ) (e : Edit) (v : Result ⊤ Refusal) (m : Map) → Wf x m → length x ≡ room_of m → Edited x e v x' → Edited (x ++ rest) e v (x' ++ rest)
 edit_joined x x' rest e v m wf size did = record {
   refused = λ n. absurd (clash (wf_mesh (x ++ rest) m whole) n);
   kept = λ why q. ap (λ (l : List ℕ). l ++ rest) (did.kept why q);
@@ -62,7 +61,7 @@ edit_joined x x' rest e v m wf size did = record {
     whole : Wf (x ++ rest) m
     whole = wf_joined x rest m wf
 
-pub in_turn_joined : {x x' : List ℕ} {es : List Edit} {last : ℕ} {r : Edits} → InTurn x es last r x' → (m : Map) → Wf x m → length x ≡ room_of m → (rest : List ℕ)
+pub in_turn_joined : {x x' : List ℕ} {es : List Edit} {last : ℕ} {r : Result ℕ Stopped} → InTurn x es last r x' → (m : Map) → Wf x m → length x ≡ room_of m → (rest : List ℕ)
     → InTurn (x ++ rest) es last r (x' ++ rest)
 unfolding verdict_says given
 in_turn_joined T.all m wf size rest = T.all
@@ -94,7 +93,7 @@ in_turn_history m (e ∷ es) last = go (in_turn_history (changed m e) es last) (
         ∙ (rest ∙ sym (ap (λ (x : Morning). x.map) (turn_made m e es last q))))
     go rest (no f) = rw (turn_refused m e es last (edit_answer m e).refusal refl f)
 
-module _ {w list w' : List ℕ} {r : Edits} (did : ListEdited w list r w') (m : Map) (wf : Wf w m) where
+module _ {w list w' : List ℕ} {r : Result ℕ Stopped} (did : ListEdited w list r w') (m : Map) (wf : Wf w m) where
   -- on well-formed memory the list's edits are made in turn in all of it
   pub morning_turns : InTurn w (read_from 0 list).edits (read_from 0 list).last r w'
   morning_turns =
@@ -114,14 +113,14 @@ module _ {w list w' : List ℕ} {r : Edits} (did : ListEdited w list r w') (m : 
       rw e (in_turn_history m (read_from 0 list).edits (read_from 0 list).last)
 
 -- none made: the words stay
-in_turn_kept : {w w' : List ℕ} {es : List Edit} {last : ℕ} {r : Edits} → InTurn w es last r w' → made_of r ≡ 0 → w' ≡ w
+in_turn_kept : {w w' : List ℕ} {es : List Edit} {last : ℕ} {r : Result ℕ Stopped} → InTurn w es last r w' → made_of r ≡ 0 → w' ≡ w
 in_turn_kept T.all z = refl
 in_turn_kept (T.none why) z = refl
 in_turn_kept (T.refused why did) z = did.kept why refl
 in_turn_kept (T.made {r = r} did rest) z = absurd (omega (arith, made_more r))
 
 -- so a list of which no edit is made changes nothing, on any memory
-pub edits_kept : {w list w' : List ℕ} {r : Edits} → ListEdited w list r w' → made_of r ≡ 0 → w' ≡ w
+pub edits_kept : {w list w' : List ℕ} {r : Result ℕ Stopped} → ListEdited w list r w' → made_of r ≡ 0 → w' ≡ w
 edits_kept {w} {list} {w'} {r} did z = go (is_mesh w) refl
   where
     go : (b : Bool) → is_mesh w ≡ b → w' ≡ w

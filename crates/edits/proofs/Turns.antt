@@ -12,22 +12,19 @@ use Rattle.map.specs.History.{Edit, Insert, Remove}
 use Rattle.map.specs.Says.{number_of}
 use Rattle.map.specs.declared.Refusal.{Refusal}
 use Rattle.map.specs.declared.Refusal.TheVariants.{TypeUnknown, CountWrong}
-use Rattle.map.specs.declared.Verdict.{Verdict}
-use Rattle.map.specs.declared.Verdict.TheVariants.{Accepted, Refused}
+use Rattle.std.specs.Prelude.{Result, ⊤, Ok, Err}
 use Rattle.mesh.specs.Edited.{Edited}
 use Rattle.build.specs.Recorded.{width, between, Recorded}
 use Rattle.build.proofs.Records.{marks_taken}
 use Rattle.map.specs.Morning.{Is, Not, insert_turn, remove_turn, turn, before, read_from}
 use Rattle.edits.specs.InTurn.{step_of, Turned, none, refused, made}
-use Rattle.edits.specs.declared.Step as Code
-use Rattle.edits.specs.declared.Step.TheVariants as Code'
 
 -- what a verdict says of an edit
-pub step_refused : (v : Verdict) (n : ℕ) (why : Refusal) → v ≡ Refused why → Code'.Refused why ≡ step_of v n
+pub step_refused : (v : Result ⊤ Refusal) (n : ℕ) (why : Refusal) → v ≡ Err why → Err why ≡ step_of v n
 unfolding step_of
 step_refused v n why e = rw e
 
-pub step_made : (v : Verdict) (n : ℕ) → v ≡ Accepted → Code'.Made n ≡ step_of v n
+pub step_made : (v : Result ⊤ Refusal) (n : ℕ) → v ≡ (Ok tt) → Ok n ≡ step_of v n
 unfolding step_of
 step_made v n e = rw e
 
@@ -77,7 +74,7 @@ module _ (kind : ℕ) (words : List ℕ) where
         go (c ∷ t ∷ licence ∷ rest) h = refl
 
     -- a record inserted, as long as it is
-    module _ (w : List ℕ) (end : ℕ) (ends : end ≡ min (0 + width words 0) (length words)) (v : Verdict) (w' : List ℕ) (did : Recorded w words 0 end v w') where
+    module _ (w : List ℕ) (end : ℕ) (ends : end ≡ min (0 + width words 0) (length words)) (v : Result ⊤ Refusal) (w' : List ℕ) (did : Recorded w words 0 end v w') where
       short : end < 3 → length words < 3
       unfolding width
       short h = omega arith
@@ -89,16 +86,16 @@ module _ (kind : ℕ) (words : List ℕ) where
       long : 3 ≤ end → 3 ≤ length words
       long h = omega arith
 
-      insert_refused : (why : Refusal) → v ≡ Refused why → Turned w kind words (Code'.Refused why) w'
+      insert_refused : (why : Refusal) → v ≡ Err why → Turned w kind words (Err why) w'
       insert_refused why q = go (dec_lt end 3)
         where
-          go : Dec (end < 3) → Turned w kind words (Code'.Refused why) w'
+          go : Dec (end < 3) → Turned w kind words (Err why) w'
           go (yes l) =
               let same : why ≡ CountWrong = cc (did.short l).0 in
               rw (same, (did.short l).1) (none CountWrong (insert_short (short l)))
           go (no f) = refused why (insert_long (long (omega arith))) (rw q at (whole (omega arith)))
 
-      insert_made : v ≡ Accepted → Turned w kind words (Code'.Made end) w'
+      insert_made : v ≡ (Ok tt) → Turned w kind words (Ok end) w'
       unfolding width
       insert_made q = go (dec_lt end 3)
         where
@@ -110,21 +107,21 @@ module _ (kind : ℕ) (words : List ℕ) where
               let e : end ≡ 3 + (shape (get_or words 1 0)).marks = omega arith in
               rw e
 
-          go : Dec (end < 3) → Turned w kind words (Code'.Made end) w'
+          go : Dec (end < 3) → Turned w kind words (Ok end) w'
           go (yes l) = let z : ◌≡◌ {A = ℕ} 0 1 = cc (did.short l).0 in absurd (omega arith)
           go (no f) =
               made end (insert_long (long (omega arith))) (omega arith) (behind (dec_lt (length words) (3 + (shape (get_or words 1 0)).marks))) (rw q at (whole (omega arith)))
 
-      pub insert_turned : (s : Code.Step) → s ≡ step_of v end → Turned w kind words s w'
+      pub insert_turned : (s : Result ℕ Refusal) → s ≡ step_of v end → Turned w kind words s w'
       unfolding step_of
       insert_turned s e = rw e (go v refl)
         where
-          go : (u : Verdict) → v ≡ u → Turned w kind words (step_of u end) w'
-          go Accepted q = insert_made q
-          go (Refused why) q = insert_refused why q
+          go : (u : Result ⊤ Refusal) → v ≡ u → Turned w kind words (step_of u end) w'
+          go (Ok tt) q = insert_made q
+          go (Err why) q = insert_refused why q
 
   module _ (remove : kind ≡ 2) (w : List ℕ) where
-    pub remove_short : length words ≡ 0 → Turned w kind words (Code'.Refused CountWrong) w
+    pub remove_short : length words ≡ 0 → Turned w kind words (Err CountWrong) w
     unfolding turn remove_turn
     remove_short h = none CountWrong (rw remove (go words h))
       where
@@ -141,16 +138,16 @@ module _ (kind : ℕ) (words : List ℕ) where
           go [] h = absurd (h refl)
           go (c ∷ rest) h = refl
 
-      module _ (c : ℕ) (first : c ≡ get_or words 0 0) (v : Verdict) (w' : List ℕ) (did : Edited w (Remove c) v w') where
-        pub remove_turned : (s : Code.Step) → s ≡ step_of v 1 → Turned w kind words s w'
+      module _ (c : ℕ) (first : c ≡ get_or words 0 0) (v : Result ⊤ Refusal) (w' : List ℕ) (did : Edited w (Remove c) v w') where
+        pub remove_turned : (s : Result ℕ Refusal) → s ≡ step_of v 1 → Turned w kind words s w'
         unfolding step_of
         remove_turned s e = rw e (go v refl)
           where
-            go : (u : Verdict) → v ≡ u → Turned w kind words (step_of u 1) w'
-            go Accepted q = made 1 remove_turn_lem (omega arith) refl (rw (first, q) at did)
-            go (Refused why) q = refused why remove_turn_lem (rw (first, q) at did)
+            go : (u : Result ⊤ Refusal) → v ≡ u → Turned w kind words (step_of u 1) w'
+            go (Ok tt) q = made 1 remove_turn_lem (omega arith) refl (rw (first, q) at did)
+            go (Err why) q = refused why remove_turn_lem (rw (first, q) at did)
 
   -- "6 for a kind neither insert nor remove"
-  pub kind_unknown : (kind ≡ 1 → ⊥) → (kind ≡ 2 → ⊥) → (w : List ℕ) → Turned w kind words (Code'.Refused TypeUnknown) w
+  pub kind_unknown : (kind ≡ 1 → ⊥) → (kind ≡ 2 → ⊥) → (w : List ℕ) → Turned w kind words (Err TypeUnknown) w
   unfolding turn
   kind_unknown f g w = none TypeUnknown (rw (ne_eqb kind 1 f, ne_eqb kind 2 g))

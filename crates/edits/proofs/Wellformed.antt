@@ -9,9 +9,10 @@ use Rattle.lists.specs.Lists.{first}
 use Rattle.map.specs.Cells.{Map}
 use Rattle.map.specs.Answers.{Answer}
 use Rattle.map.specs.History.{Edit, edit_answer, changed, edited}
-use Rattle.map.specs.Says.{number_of, given, refused, verdict_says, edits_says}
+use Rattle.map.specs.Says.{number_of, given, refused, verdict_says, edits_says, StoppedAt}
 use Rattle.map.specs.declared.Refusal.{Refusal}
-use Rattle.map.specs.declared.Verdict.TheVariants as Verdict'
+use Rattle.map.specs.declared.Stopped.{Stopped}
+use Rattle.std.specs.Prelude.{Result, Ok, Err}
 use Rattle.map.proofs.Refusals.{number_some}
 use Rattle.laws.proofs.Edits.{edited_changed}
 use Rattle.picture.specs.Picture.{Wf}
@@ -20,8 +21,6 @@ use Rattle.map.specs.Morning as M
 use Rattle.map.specs.Morning.{Morning, in_turn, told}
 use Rattle.edits.specs.InTurn as T
 use Rattle.edits.specs.InTurn.{one_more, InTurn}
-use Rattle.map.specs.declared.Edits.{Edits}
-use Rattle.map.specs.declared.Edits.TheVariants.{Made, Stopped}
 
 -- an edit that is accepted, and one that is refused
 module _ (m : Map) (e : Edit) (es : List Edit) (last : ℕ) where
@@ -37,16 +36,16 @@ module _ (m : Map) (e : Edit) (es : List Edit) (last : ℕ) where
 grown : Answer → Answer
 grown a = record { refusal = a.refusal; values = suc (first 0 a.values) ∷ [] }
 
-grown_says : (r : Edits) → edits_says (one_more r) ≡ grown (edits_says r)
+grown_says : (r : Result ℕ Stopped) → edits_says (one_more r) ≡ grown (edits_says r)
 unfolding edits_says given grown first
-grown_says (Made n) = refl
-grown_says (Stopped n why) = refl
+grown_says (Ok n) = refl
+grown_says (Err e) = refl
 
 grown_told : (x : Morning) → told (M.one_more x) ≡ grown (told x)
 unfolding told grown first
 grown_told x = refl
 
-pub in_turn_wf : {w w' : List ℕ} {es : List Edit} {last : ℕ} {r : Edits} → InTurn w es last r w' → (m : Map) → Wf w m
+pub in_turn_wf : {w w' : List ℕ} {es : List Edit} {last : ℕ} {r : Result ℕ Stopped} → InTurn w es last r w' → (m : Map) → Wf w m
     → (edits_says r ≡ told (in_turn m es last)) × Wf w' (in_turn m es last).map
 unfolding in_turn told edits_says given verdict_says refused
 in_turn_wf T.all m wf = (refl, wf)
@@ -60,7 +59,7 @@ in_turn_wf {w} {w'} (T.made {w₁ = w₁} {e = e} {es} {last} {r} did rest) m wf
     rw (turn_made m e es last q) (grown_says r ∙ (ap grown x.0 ∙ sym (grown_told (in_turn (changed m e) es last))), x.1)
 
 -- the words stay as many
-pub in_turn_size : {w w' : List ℕ} {es : List Edit} {last : ℕ} {r : Edits} → InTurn w es last r w' → length w' ≡ length w
+pub in_turn_size : {w w' : List ℕ} {es : List Edit} {last : ℕ} {r : Result ℕ Stopped} → InTurn w es last r w' → length w' ≡ length w
 in_turn_size T.all = refl
 in_turn_size (T.none why) = refl
 in_turn_size (T.refused why did) = did.inside.size

@@ -15,10 +15,10 @@ ghost use Rattle.edits.specs.InTurn.{step_of, Turned, InTurn, ListEdited};
 ghost use Rattle.map.specs.Says.{edits_says};
 
 use build::{one_record, record_end};
-use map::{Edits, Refusal, Verdict};
+use map::{Refusal, Stopped};
 use mesh::remove;
 use numbers::Cell;
-use store::{Opened, open, room_of};
+use store::{open, room_of};
 use words::{part, word};
 
 // The desk's tally: how many edits were accepted and how many refused.
@@ -26,13 +26,6 @@ use words::{part, word};
 pub struct Tally {
     pub accepted: u32,
     pub refused: u32,
-}
-
-// One edit of a list: how many words it takes behind its kind, or why it is refused.
-#[derive(Clone, Copy)]
-enum Step {
-    Made(usize),
-    Refused(Refusal),
 }
 
 // A count with so many more; at its largest number it stays.
@@ -48,33 +41,31 @@ fn raised(had: u32, more: usize) -> u32
 }
 
 // The tally after a list with this answer.
-pub fn tallied(t: Tally, r: Edits) -> Tally
+pub fn tallied(t: Tally, r: Result<usize, Stopped>) -> Tally
     ensures { result ≡ tally_after t (edits_says r) }
 {
     match r {
-        Edits::Made(all) => Tally {
+        Ok(all) => Tally {
             accepted: raised(t.accepted, all),
             refused: t.refused,
         },
-        Edits::Stopped(first, _) => Tally {
-            accepted: raised(t.accepted, first),
+        Err(stopped) => Tally {
+            accepted: raised(t.accepted, stopped.made),
             refused: raised(t.refused, 1),
         },
     }
 }
 
 // An edit with this verdict, which takes so many words.
-fn step_of(v: Verdict, n: usize) -> Step
-    ensures { result ≡ step_of v n }
+fn step_of(v: Result<(), Refusal>, words: usize) -> Result<usize, Refusal>
+    ensures { result ≡ step_of v words }
 {
-    match v {
-        Verdict::Refused(why) => Step::Refused(why),
-        Verdict::Accepted => Step::Made(n),
-    }
+    v?;
+    Ok(words)
 }
 
-// The edit of this kind from the first of the words on.
-fn one_edit(w: &mut [u32], kind: u32, words: &[u32]) -> Step
+// The edit of this kind from the first of the words on; how many words it takes.
+fn one_edit(w: &mut [u32], kind: u32, words: &[u32]) -> Result<usize, Refusal>
     ensures { Turned w.old kind words.now result w.new }
 {
     if kind == 1 {
@@ -83,48 +74,51 @@ fn one_edit(w: &mut [u32], kind: u32, words: &[u32]) -> Step
     }
     if kind == 2 {
         if words.len() == 0 {
-            return Step::Refused(Refusal::CountWrong);
+            return Err(Refusal::CountWrong);
         }
         return step_of(remove(w, Cell(word(words, 0))), 1);
     }
-    Step::Refused(Refusal::TypeUnknown)
+    Err(Refusal::TypeUnknown)
 }
 
 // The edits of a list in turn, up to the first refusal.
-fn edit_all(w: &mut [u32], list: &[u32]) -> Edits
+fn edit_all(w: &mut [u32], list: &[u32]) -> Result<usize, Stopped>
     ensures { InTurn w.old (read_from 0 list.now).edits (read_from 0 list.now).last result w.new }
 {
     let mut at: usize = 0;
     let mut made: usize = 0;
+    // a walk from edit to edit, not a count: each says how many words it takes
     while at < list.len() {
         let kind = word(list, at);
         at += 1;
         match one_edit(w, kind, part(list, at, list.len() - at)) {
-            Step::Refused(why) => {
-                return Edits::Stopped(made, why);
+            Err(why) => {
+                return Err(Stopped { made, why });
             }
-            Step::Made(n) => {
+            Ok(n) => {
                 at += n;
                 made += 1;
             }
         }
     }
-    Edits::Made(made)
+    Ok(made)
 }
 
 // The edits of a list, on memory that is a mesh: only its room is lent to them.
-pub fn make_edits(w: &mut [u32], list: &[u32]) -> Edits
+pub fn make_edits(w: &mut [u32], list: &[u32]) -> Result<usize, Stopped>
     ensures { ListEdited w.old list.now result w.new }
 {
-    let Opened::Mesh(caps) = open(w) else {
-        return Edits::Stopped(0, Refusal::NotMesh);
-    };
-    let room = room_of(caps);
-    edit_all(&mut w[..room], list)
+    match open(w) {
+        Err(why) => Err(Stopped { made: 0, why }),
+        Ok(caps) => {
+            let room = room_of(caps);
+            edit_all(&mut w[..room], list)
+        }
+    }
 }
 
 // The edits of a list, and the tally updated in place.
-pub fn edits(w: &mut [u32], list: &[u32], tally: &mut Tally) -> Edits
+pub fn edits(w: &mut [u32], list: &[u32], tally: &mut Tally) -> Result<usize, Stopped>
     ensures { ListEdited w.old list.now result w.new × (tally.new ≡ tally_after tally.old (edits_says result)) }
 {
     let r = make_edits(w, list);

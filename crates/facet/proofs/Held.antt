@@ -1,17 +1,16 @@
 -- The marks of a facet looked at where they stand, one after another.
-use mathlib.Core.Path.{◌≡◌, refl, sym, subst, ◌∙◌}
+use mathlib.Core.Path.{◌≡◌, refl, sym, ◌∙◌}
 use mathlib.Core.Bool.{Bool, true, false, ◌&&◌}
 use mathlib.Core.List.{List, ◌∷◌}
-use Prim.Native.Nat.{ℕ, suc, ◌-◌, ◌<◌, ◌≤◌, min}
+use Prim.Native.Nat.{ℕ, suc, ◌<◌, ◌≤◌, min}
 use native.Mathlib.Decide.{dec_lt}
 use native.Mathlib.Omega.{arith}
 use borrow.Author.Tests.{eq-eqb, ne_eqb}
 use lib.Dec.{eqb}
-use lib.ListN.{length, get_or, drop, get_or-eq_default}
-use lib.Seq.{drop-cons, drop-length}
+use lib.ListN.{length, get_or, get_or-eq_default}
 use Rattle.lists.specs.Lists.{has, all, same_set, list_of}
-use Rattle.lists.proofs.Bools.{clash, not_true_false, or_right, and_both}
-use Rattle.lists.proofs.Members.{has_at, at_has, all_at, all_has, has_all}
+use Rattle.lists.proofs.Bools.{clash, not_true_false, or_right}
+use Rattle.lists.proofs.Members.{has_at, at_has, all_has, has_all}
 use Rattle.lists.proofs.Fill.{length_list_of}
 use Rattle.lists.proofs.Mapped.{list_at}
 use Rattle.lists.proofs.Alike.{and_false}
@@ -37,25 +36,6 @@ place_known marks p = go (dec_lt p (length marks))
     go : Dec (p < length marks) → has (get_or marks p 0) (0 ∷ marks) ≡ true
     go (yes l) = or_right (eqb 0 (get_or marks p 0)) (has (get_or marks p 0) marks) (at_has marks p l)
     go (no g) = sym (known_none marks (get_or marks p 0) (get_or-eq_default marks 0 {n = p} (omega arith)))
-
--- a list gone through from its end: it starts, goes on, stops or ends
-module _ (p : ℕ → Bool) (l : List ℕ) where
-  pub back_start : all p (drop (length l) l) ≡ true
-  unfolding all
-  back_start = rw (drop-length l)
-
-  pub back_more : (i : ℕ) → all p (drop i l) ≡ true → 0 < i → i ≤ length l → p (get_or l (i - 1) 0) ≡ true → all p (drop (i - 1) l) ≡ true
-  unfolding all
-  back_more i was some h e =
-      let here : i ≡ suc (i - 1) = omega arith in
-      rw (drop-cons l (i - 1) 0 (omega arith))
-      (and_both (p (get_or l (i - 1) 0)) (all p (drop (suc (i - 1)) l)) e (subst (λ (k : ℕ). all p (drop k l) ≡ true) here was))
-
-  pub back_stop : (k : ℕ) → k < length l → p (get_or l k 0) ≡ false → false ≡ all p l
-  back_stop k h e = sym (not_true_false (all p l) (λ q. clash (all_at p l 0 k q h) e))
-
-  pub back_end : (i : ℕ) → all p (drop i l) ≡ true → i ≤ 0 → true ≡ all p l
-  back_end i was h = let none : i ≡ 0 = omega arith in sym (rw none at was)
 
 module _ (a b : List ℕ) where
   -- the second list not within the first, or within it

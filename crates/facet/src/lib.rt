@@ -31,7 +31,7 @@ pub fn marks_at(w: &[u32], caps: Caps, c: Cell) -> &[u32]
 fn four_at_most(n: u32) -> u32
     ensures { result ≡ min most_corners n }
 {
-    if MOST_CORNERS < n { MOST_CORNERS } else { n }
+    MOST_CORNERS.min(n)
 }
 
 // The marks of a facet of the type, written to the first places of out; how many there are.
@@ -39,15 +39,12 @@ pub fn facet_set(rows: &FacetTable, t: u32, f: u32, marks: &[u32], out: &mut [u3
     ensures { Copied (set_in rows.now t f marks.now) out.old result out.new }
 {
     let n = four_at_most(column(rows, t, f, 0));
-    let mut k: u32 = 0;
-    while k < n {
-        let next = k + 1;
+    for k in 0..n {
         put(
             out,
             k as usize,
-            word(marks, column(rows, t, f, next) as usize),
+            word(marks, column(rows, t, f, k + 1) as usize),
         );
-        k = next;
     }
     n
 }
@@ -64,13 +61,10 @@ fn set_has(rows: &FacetTable, t: u32, f: u32, marks: &[u32], v: u32) -> bool
     ensures { result ≡ has v (set_in rows.now t f marks.now) }
 {
     let n = four_at_most(column(rows, t, f, 0));
-    let mut k: u32 = 0;
-    while k < n {
-        let next = k + 1;
-        if word(marks, column(rows, t, f, next) as usize) == v {
+    for k in 0..n {
+        if word(marks, column(rows, t, f, k + 1) as usize) == v {
             return true;
         }
-        k = next;
     }
     false
 }
@@ -80,13 +74,10 @@ fn set_within(rows: &FacetTable, t: u32, f: u32, marks: &[u32], set: &[u32]) -> 
     ensures { result ≡ all (λ x. has x set.now) (set_in rows.now t f marks.now) }
 {
     let n = four_at_most(column(rows, t, f, 0));
-    let mut k: u32 = 0;
-    while k < n {
-        let next = k + 1;
-        if !lists::has(set, word(marks, column(rows, t, f, next) as usize)) {
+    for k in 0..n {
+        if !lists::has(set, word(marks, column(rows, t, f, k + 1) as usize)) {
             return false;
         }
-        k = next;
     }
     true
 }
@@ -95,41 +86,21 @@ fn set_within(rows: &FacetTable, t: u32, f: u32, marks: &[u32], set: &[u32]) -> 
 fn same_facet(rows: &FacetTable, t: u32, f: u32, marks: &[u32], set: &[u32]) -> bool
     ensures { result ≡ same_set set.now (set_in rows.now t f marks.now) }
 {
-    if !set_within(rows, t, f, marks, set) {
-        return false;
-    }
-    let mut i: usize = 0;
-    while i < set.len() {
-        if !set_has(rows, t, f, marks, set[i]) {
-            return false;
-        }
-        i += 1;
-    }
-    true
+    set_within(rows, t, f, marks, set) && set.iter().all(|x| set_has(rows, t, f, marks, *x))
 }
 
 // Whether the number is one of the marks, or 0, which a place beyond them reads as.
 fn known(marks: &[u32], x: u32) -> bool
     ensures { result ≡ has x (0 ∷ marks.now) }
 {
-    if x == 0 {
-        return true;
-    }
-    lists::has(marks, x)
+    x == 0 || lists::has(marks, x)
 }
 
 // Whether all of the set are; the last mark first, since the first is the one that led to the cell.
 fn spans(marks: &[u32], set: &[u32]) -> bool
     ensures { result ≡ all (λ x. has x (0 ∷ marks.now)) set.now }
 {
-    let mut i = set.len();
-    while 0 < i {
-        i -= 1;
-        if !known(marks, set[i]) {
-            return false;
-        }
-    }
-    true
+    set.iter().rev().all(|x| known(marks, *x))
 }
 
 // The first facet of the type with this set of marks; 8 where there is none.
@@ -140,12 +111,10 @@ fn first_facet(rows: &FacetTable, t: u32, marks: &[u32], set: &[u32]) -> u32
         return NO_FACET;
     }
     let n = facet_count(t);
-    let mut f: u32 = 0;
-    while f < n {
+    for f in 0..n {
         if same_facet(rows, t, f, marks, set) {
             return f;
         }
-        f += 1;
     }
     NO_FACET
 }

@@ -23,7 +23,7 @@ use Rattle.map.specs.Cells.{map_of}
 use Rattle.map.specs.Says.{given, refused, verdict_says}
 use Rattle.map.specs.declared.Refusal.{Refusal}
 use Rattle.map.specs.declared.Refusal.TheVariants.{CapacityAbove, MemoryShort, TypeUnknown}
-use Rattle.map.specs.declared.Verdict.TheVariants.{Accepted, Refused}
+use Rattle.std.specs.Prelude.{Ok, Err}
 use Rattle.laws.proofs.Edits.{sound_empty}
 use Rattle.laws.proofs.Solids.{two_empty}
 use Rattle.picture.specs.State.{state_of}
@@ -69,7 +69,7 @@ module _ (w w' : List ℕ) (caps : Caps) (clear : Cleared (room caps.marks caps.
 
 module _ (w : List ℕ) (caps : Caps) where
   -- a refusal of a format
-  format_refused : (why : Refusal) → refused why ≡ answer (format_checks (length w) caps) [] → Formatted w caps (Refused why) w
+  format_refused : (why : Refusal) → refused why ≡ answer (format_checks (length w) caps) [] → Formatted w caps (Err why) w
   unfolding verdict_says
   format_refused why e = record {
     says = e;
@@ -79,33 +79,33 @@ module _ (w : List ℕ) (caps : Caps) where
   }
 
   -- each answer, check by check
-  pub format_edition : is_edition caps.edition ≡ false → Formatted w caps (Refused TypeUnknown) w
+  pub format_edition : is_edition caps.edition ≡ false → Formatted w caps (Err TypeUnknown) w
   unfolding format_checks ◌when◌ answer refused
   format_edition e = format_refused TypeUnknown (rw e)
 
   module _ (edition : is_edition caps.edition ≡ true) where
-    pub format_marks : most_capacity < caps.marks → Formatted w caps (Refused CapacityAbove) w
+    pub format_marks : most_capacity < caps.marks → Formatted w caps (Err CapacityAbove) w
     unfolding format_checks ◌when◌ answer refused
     format_marks h = format_refused CapacityAbove (rw (edition, lt-ltb most_capacity caps.marks h))
 
     module _ (fewMarks : caps.marks ≤ most_capacity) where
-      pub format_cells : most_capacity < caps.cells → Formatted w caps (Refused CapacityAbove) w
+      pub format_cells : most_capacity < caps.cells → Formatted w caps (Err CapacityAbove) w
       unfolding format_checks ◌when◌ answer refused
       format_cells h = format_refused CapacityAbove (rw (edition, le-ltb most_capacity caps.marks fewMarks, lt-ltb most_capacity caps.cells h))
 
       module _ (fewCells : caps.cells ≤ most_capacity) where
-        pub format_short : length w < room caps.marks caps.cells → Formatted w caps (Refused MemoryShort) w
+        pub format_short : length w < room caps.marks caps.cells → Formatted w caps (Err MemoryShort) w
         unfolding format_checks ◌when◌ answer refused
         format_short h =
             format_refused MemoryShort (rw (edition, le-ltb most_capacity caps.marks fewMarks, le-ltb most_capacity caps.cells fewCells, lt-ltb (length w) (room caps.marks caps.cells) h))
 
         module _ (fits : room caps.marks caps.cells ≤ length w) where
-          format_says : verdict_says Accepted ≡ answer (format_checks (length w) caps) []
+          format_says : verdict_says (Ok tt) ≡ answer (format_checks (length w) caps) []
           unfolding format_checks ◌when◌ answer verdict_says given
           format_says = rw (edition, le-ltb most_capacity caps.marks fewMarks, le-ltb most_capacity caps.cells fewCells, le-ltb (length w) (room caps.marks caps.cells) fits)
 
           -- a format that is accepted
-          pub format_made : (w₁ w₂ : List ℕ) (n : ℕ) → Cleared n w w₁ → n ≡ room caps.marks caps.cells → w₂ ≡ headed w₁ caps → Formatted w caps Accepted w₂
+          pub format_made : (w₁ w₂ : List ℕ) (n : ℕ) → Cleared n w w₁ → n ≡ room caps.marks caps.cells → w₂ ≡ headed w₁ caps → Formatted w caps (Ok tt) w₂
           unfolding map_of empty
           format_made w₁ w₂ n clear all e = rw e (record {
             says = format_says;

@@ -10,34 +10,30 @@ ghost use Rattle.numbers.specs.Sizes.{caps_under, capacities};
 ghost use Rattle.format.specs.Formatted.{Formatted};
 ghost use Rattle.format.specs.Cleared.{Cleared};
 
-use map::{Refusal, Verdict};
+use map::Refusal;
 use numbers::{Caps, FIRST_EDITION, MOST_CAPACITY, is_edition};
 use store::{room_of, write_head};
-use words::put;
 
 // The first n words set to 0.
 fn clear(w: &mut [u32], n: usize)
     ensures { Cleared n w.old w.new }
 {
-    let mut i: usize = 0;
-    while i < n {
-        put(w, i, 0);
-        i += 1;
-    }
+    let end = n.min(w.len());
+    w[..end].fill(0);
 }
 
 // A mesh of these capacities and this edition with no live cell.
-pub fn format_edition(w: &mut [u32], marks: u32, cells: u32, edition: u32) -> Verdict
+pub fn format_edition(w: &mut [u32], marks: u32, cells: u32, edition: u32) -> Result<(), Refusal>
     ensures { Formatted w.old (caps_under edition marks cells) result w.new }
 {
     if !is_edition(edition) {
-        return Verdict::Refused(Refusal::TypeUnknown);
+        return Err(Refusal::TypeUnknown);
     }
     if MOST_CAPACITY < marks {
-        return Verdict::Refused(Refusal::CapacityAbove);
+        return Err(Refusal::CapacityAbove);
     }
     if MOST_CAPACITY < cells {
-        return Verdict::Refused(Refusal::CapacityAbove);
+        return Err(Refusal::CapacityAbove);
     }
     let caps = Caps {
         marks,
@@ -46,15 +42,15 @@ pub fn format_edition(w: &mut [u32], marks: u32, cells: u32, edition: u32) -> Ve
     };
     let room = room_of(caps);
     if w.len() < room {
-        return Verdict::Refused(Refusal::MemoryShort);
+        return Err(Refusal::MemoryShort);
     }
     clear(w, room);
     write_head(w, caps);
-    Verdict::Accepted
+    Ok(())
 }
 
 // A mesh of these capacities with no live cell, under edition 1.
-pub fn format(w: &mut [u32], marks: u32, cells: u32) -> Verdict
+pub fn format(w: &mut [u32], marks: u32, cells: u32) -> Result<(), Refusal>
     ensures { Formatted w.old (capacities marks cells) result w.new }
 {
     format_edition(w, marks, cells, FIRST_EDITION)

@@ -1,6 +1,6 @@
 -- A line's bytes and numbers, as the code reads them.
 use mathlib.Core.Path.{◌≡◌, refl, sym, ap, ◌∙◌}
-use mathlib.Core.Bool.{true}
+use mathlib.Core.Bool.{Bool, true, false}
 use mathlib.Core.List.{List, [], ◌∷◌, ◌++◌}
 use mathlib.Core.Logic.{⊎_elim}
 use Prim.Native.Nat.{ℕ, zero, suc, ◌+◌, ◌-◌, ◌*◌, ◌/◌, ◌%◌, ◌<◌, ◌≤◌}
@@ -8,11 +8,13 @@ use native.Mathlib.Decide.{dec_lt}
 use native.Mathlib.Nat.{eq-or-lt_of_le}
 use native.Mathlib.Numerals.{add-one}
 use native.Mathlib.Omega.{arith}
-use borrow.Author.Tests.{lt-ltb, le-ltb, eq-eqb, ne_eqb}
+use borrow.Author.Tests.{lt-ltb, le-ltb, le-leb, leb-true, eq-eqb, ne_eqb}
 use lib.Dec.{leb}
 use lib.ListN.{length, get_or, set, get_or-eq_default, get_or-append}
 use lib.Seq.{sets, get_or_at}
 use Rattle.lists.specs.Lists.{any, list_of}
+use Rattle.lists.proofs.Bools.{either}
+use Rattle.lists.proofs.Members.{any_at, at_any}
 use Rattle.lists.proofs.Fill.{length_list_of}
 use Rattle.frames.specs.Frames.{digit_of, bad_line, byte_at, bytes_of, number_at, marks_from}
 use Rattle.frames.specs.Forms.{Marked}
@@ -70,6 +72,19 @@ module _ (line : List ℕ) where
   pub bad_rest : length line ≤ 64 → (length line % 2 ≡ 1 → ⊥) → any (λ b. leb 16 (digit_of b)) line ≡ bad_line line
   unfolding bad_line
   bad_rest h f = rw (le-ltb 64 (length line) h, ne_eqb (length line % 2) 1 f)
+
+-- whether a character is no digit, by the places
+pub no_digits : (line : List ℕ) (r : Bool) → (r ≡ true → (k : ℕ) × (k < length line) × (16 ≤ digit_of (get_or line k 0)))
+    → (r ≡ false → (k : ℕ) → k < length line → digit_of (get_or line k 0) < 16) → r ≡ any (λ b. leb 16 (digit_of b)) line
+no_digits line true some none =
+    let found = some refl in
+    sym (at_any (λ b. leb 16 (digit_of b)) line 0 found.0 found.1 (le-leb 16 (digit_of (get_or line found.0 0)) found.2))
+no_digits line false some none = ⊎_elim (λ e. absurd (never e)) sym (either (any (λ b. leb 16 (digit_of b)) line))
+  where
+    never : any (λ b. leb 16 (digit_of b)) line ≡ true → ⊥
+    never e =
+        let found = any_at (λ b. leb 16 (digit_of b)) line 0 e in
+        omega (arith, none refl found.0 found.1, leb-true 16 (digit_of (get_or line found.0 0)) found.2)
 
 -- numbers stored place by place
 sets_snoc : (l o : List ℕ) (at x : ℕ) → sets o at (l ++ (x ∷ [])) ≡ set (sets o at l) (at + length l) x

@@ -10,7 +10,7 @@ use lib.ListN.{get_or, length}
 use Rattle.numbers.specs.Half.{half_of}
 use Rattle.map.specs.declared.Refusal.{Refusal}
 use Rattle.map.specs.declared.Refusal.TheVariants.{BadFrame}
-use Rattle.map.specs.declared.Verdict.TheVariants.{Refused}
+use Rattle.std.specs.Prelude.{Err}
 use Rattle.map.specs.Siblings.{sibling}
 use Rattle.map.specs.Ways.{way_number, way}
 use Rattle.map.specs.Answers.{Check, Answer, ◌when◌, answer, list_answer, half_checks, sibling_answer}
@@ -91,6 +91,6 @@ module _ (g : Journal) where
   reply_sibling_refused c f why e =
       answer_refused (sibling (today g) (half_of c f)) (way_number (way (today g) (half_of c f)) ∷ []) (bytes (half_of c f)) (half_checks (today g) c f) why e
 
-  pub reply_bad : reply_to g Bad ≡ verdict_says (Refused BadFrame)
+  pub reply_bad : reply_to g Bad ≡ verdict_says (Err BadFrame)
   unfolding reply_to answer ◌when◌ verdict_says refused
   reply_bad = refl

@@ -5,8 +5,8 @@ use Prim.Native.Nat.{ℕ, ◌+◌, ◌*◌, ◌≤◌}
 use native.Mathlib.Nat.{zero-mul, suc-mul}
 use native.Mathlib.Omega.{arith}
 use lib.ListN.{length, length-append}
-use Rattle.map.specs.declared.Verdict.{Verdict}
-use Rattle.map.specs.declared.Verdict.TheVariants as Verdict'
+use Rattle.map.specs.declared.Refusal.{Refusal}
+use Rattle.std.specs.Prelude.{Result, ⊤, Ok, Err}
 use Rattle.map.specs.Says.{given, refused, verdict_says}
 use Rattle.frames.specs.Frames.{two_bytes, each, counted, cell_and_facet, sibling_bytes, hex, written}
 use Rattle.numbers.specs.Sizes.{most_around}
@@ -26,10 +26,10 @@ written_length : (l : List ℕ) → length (written (given l)) ≡ 3 + 2 * lengt
 unfolding written given
 written_length l = length-append (hex (0 ∷ l)) (10 ∷ []) ∙ omega (arith, hex_length (0 ∷ l))
 
-pub verdict_length : (v : Verdict) → length (written (verdict_says v)) ≡ 3
+pub verdict_length : (v : Result ⊤ Refusal) → length (written (verdict_says v)) ≡ 3
 unfolding written verdict_says given refused hex
-verdict_length Verdict'.Accepted = refl
-verdict_length (Verdict'.Refused r) = refl
+verdict_length (Ok tt) = refl
+verdict_length (Err r) = refl
 
 pub half_length : (h n : ℕ) → length (written (given (sibling_bytes h n))) ≡ 11
 unfolding sibling_bytes cell_and_facet two_bytes

@@ -7,8 +7,7 @@ use native.Mathlib.Omega.{arith}
 use lib.ListN.{length, get_or, take}
 use lib.Seq.{take-suc, take_all}
 use Rattle.map.specs.declared.Refusal.{Refusal}
-use Rattle.map.specs.declared.Verdict.{Verdict}
-use Rattle.map.specs.declared.Verdict.TheVariants as Verdict'
+use Rattle.std.specs.Prelude.{Result, ⊤, Ok, Err}
 use Rattle.map.specs.declared.Way.{Way}
 use Rattle.map.specs.Ways.{way_number}
 use Rattle.map.proofs.Refusals.{number_byte}
@@ -60,13 +59,13 @@ module _ {o o' o'' : List ℕ} {at p q : ℕ} where
   unfolding counted
   counted_done g l f s = append_same (sym (hex_append (two_bytes (length l)) (each g l))) (append_more (hex (two_bytes (length l))) (hex (each g l)) f s)
 
-  pub verdict_done : (v : Verdict) (r : ℕ) → r ≡ (verdict_says v).refusal → Appended (hex (r ∷ [])) o at p o' → Appended (10 ∷ []) o' p q o'' → Appended (written (verdict_says v)) o at q o''
+  pub verdict_done : (v : Result ⊤ Refusal) (r : ℕ) → r ≡ (verdict_says v).refusal → Appended (hex (r ∷ [])) o at p o' → Appended (10 ∷ []) o' p q o'' → Appended (written (verdict_says v)) o at q o''
   unfolding written verdict_says given refused
   verdict_done v r e f s = append_same (rw e (line v)) (append_more (hex (r ∷ [])) (10 ∷ []) f s)
     where
-      line : (v : Verdict) → hex ((verdict_says v).refusal ∷ []) ++ (10 ∷ []) ≡ hex ((verdict_says v).refusal ∷ (verdict_says v).values) ++ (10 ∷ [])
-      line Verdict'.Accepted = refl
-      line (Verdict'.Refused r) = refl
+      line : (v : Result ⊤ Refusal) → hex ((verdict_says v).refusal ∷ []) ++ (10 ∷ []) ≡ hex ((verdict_says v).refusal ∷ (verdict_says v).values) ++ (10 ∷ [])
+      line (Ok tt) = refl
+      line (Err r) = refl
 
   -- one more of a list
   pub each_more : (g : ℕ → List ℕ) (l : List ℕ) (i x : ℕ) → i < length l → x ≡ get_or l i 0
@@ -90,10 +89,10 @@ pub given_done : (l : List ℕ) {o o' o'' o''' : List ℕ} {at p q r : ℕ}
 unfolding written given hex
 given_done l f s t = append_more (hex (0 ∷ l)) (10 ∷ []) (append_more (hex (0 ∷ [])) (hex l) f s) t
 
-pub accepted_byte : (v : Verdict) → v ≡ Verdict'.Accepted → 0 ≡ (verdict_says v).refusal
+pub accepted_byte : (v : Result ⊤ Refusal) → v ≡ (Ok tt) → 0 ≡ (verdict_says v).refusal
 unfolding verdict_says given
 accepted_byte v e = rw e
 
-pub refused_byte : (v : Verdict) (r : Refusal) (n : ℕ) → v ≡ Verdict'.Refused r → n ≡ number_of r → n % 256 ≡ (verdict_says v).refusal
+pub refused_byte : (v : Result ⊤ Refusal) (r : Refusal) (n : ℕ) → v ≡ Err r → n ≡ number_of r → n % 256 ≡ (verdict_says v).refusal
 unfolding verdict_says refused
 refused_byte v r n e f = rw (e, f) (number_byte r)

@@ -13,7 +13,7 @@ ghost use Rattle.map.specs.Ways.{way_number};
 ghost use Rattle.frames.specs.Frames.{digits, digit_of, bad_line, bytes_of, number_at, two_bytes, marks_from, frame_in, frame_of, each, counted, cell_and_facet, sibling_bytes, hex, written};
 ghost use Rattle.frames.specs.Forms.{carried, Reading, Marked, Appended};
 
-use map::{Verdict, Way, number_of, way_number};
+use map::{Refusal, Way, number_of, way_number};
 use numbers::{Cell, Half, Mark};
 use words::put;
 
@@ -58,14 +58,7 @@ fn bad_line(line: &[u8]) -> bool
     if line.len() % 2 == 1 {
         return true;
     }
-    let mut i = 0;
-    while i < line.len() {
-        if 16 <= digit(line[i]) {
-            return true;
-        }
-        i += 1;
-    }
-    false
+    line.iter().any(|b| 16 <= digit(*b))
 }
 
 // The byte at a place of a line's bytes; 0 past the end.
@@ -97,10 +90,8 @@ fn read_marks(line: &[u8], marks: &mut [u32]) -> usize
         return 0;
     }
     let n = (line.len() / 2 - 6) / 2;
-    let mut i = 0;
-    while i < n {
+    for i in 0..n {
         put(marks, i, number_at(line, 6 + 2 * i));
-        i += 1;
     }
     n
 }
@@ -178,7 +169,7 @@ pub fn read(line: &[u8], marks: &mut [u32]) -> Frame
 }
 
 // A byte of the output at a place; the place after it. Past the end nothing is written.
-fn add(out: &mut [u8], at: usize, b: u8) -> usize
+pub fn add(out: &mut [u8], at: usize, b: u8) -> usize
     ensures { Appended (b ∷ []) out.old at result out.new }
 {
     if out.len() <= at {
@@ -230,10 +221,8 @@ fn add_cells(out: &mut [u8], at: usize, cells: &[u32]) -> usize
     ensures { Appended (hex (each two_bytes cells.now)) out.old at result out.new }
 {
     let mut next = at;
-    let mut i = 0;
-    while i < cells.len() {
-        next = add_number(out, next, cells[i] as usize);
-        i += 1;
+    for cell in cells {
+        next = add_number(out, next, *cell as usize);
     }
     next
 }
@@ -243,26 +232,24 @@ fn add_halves(out: &mut [u8], at: usize, halves: &[u32]) -> usize
     ensures { Appended (hex (each cell_and_facet halves.now)) out.old at result out.new }
 {
     let mut next = at;
-    let mut i = 0;
-    while i < halves.len() {
-        next = add_half(out, next, halves[i]);
-        i += 1;
+    for half in halves {
+        next = add_half(out, next, *half);
     }
     next
 }
 
 // The byte of a refusal; 0 for accepted.
-fn refusal_byte(v: Verdict) -> u8
+fn refusal_byte(v: Result<(), Refusal>) -> u8
     ensures { result ≡ (verdict_says v).refusal }
 {
     match v {
-        Verdict::Accepted => 0,
-        Verdict::Refused(why) => (number_of(why) % 256) as u8,
+        Ok(()) => 0,
+        Err(why) => (number_of(why) % 256) as u8,
     }
 }
 
 // The line of a format, an insert or a remove, and of any refusal.
-pub fn write_verdict(out: &mut [u8], at: usize, v: Verdict) -> usize
+pub fn write_verdict(out: &mut [u8], at: usize, v: Result<(), Refusal>) -> usize
     ensures { Appended (written (verdict_says v)) out.old at result out.new }
 {
     let next = add_byte(out, at, refusal_byte(v));

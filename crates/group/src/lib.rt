@@ -32,8 +32,7 @@ fn meets(w: &[u32], caps: Caps, start: Half, b: Cell) -> bool
     ensures { result ≡ met_in w.now caps start.0 b.0 }
 {
     let mut h = sibling_of(w, caps, start);
-    let mut left: u32 = MOST_AROUND;
-    while 0 < left {
+    for _ in 0..MOST_AROUND {
         if h.0 == start.0 {
             return false;
         }
@@ -41,7 +40,6 @@ fn meets(w: &[u32], caps: Caps, start: Half, b: Cell) -> bool
             return true;
         }
         h = sibling_of(w, caps, h);
-        left -= 1;
     }
     false
 }
@@ -50,10 +48,7 @@ fn meets(w: &[u32], caps: Caps, start: Half, b: Cell) -> bool
 fn joins(w: &[u32], caps: Caps, rows: &FacetTable, v: Mark, a: Cell, f: u32, b: Cell) -> bool
     ensures { result ≡ joins_in w.now caps rows.now v.0 a.0 f b.0 }
 {
-    if !meets(w, caps, half_of(a, f), b) {
-        return false;
-    }
-    facet_has(w, caps, rows, a, f, v)
+    meets(w, caps, half_of(a, f), b) && facet_has(w, caps, rows, a, f, v)
 }
 
 // Whether two cells share a facet that holds v, by the sibling words.
@@ -61,12 +56,10 @@ fn linked(w: &[u32], caps: Caps, rows: &FacetTable, v: Mark, a: Cell, b: Cell) -
     ensures { result ≡ linked_in w.now caps rows.now v.0 a.0 b.0 }
 {
     let n = facet_count(code_of(w, caps, a));
-    let mut f: u32 = 0;
-    while f < n {
+    for f in 0..n {
         if joins(w, caps, rows, v, a, f, b) {
             return true;
         }
-        f += 1;
     }
     false
 }
@@ -75,10 +68,8 @@ fn linked(w: &[u32], caps: Caps, rows: &FacetTable, v: Mark, a: Cell, b: Cell) -
 fn number(lab: &mut [u32], n: u32)
     ensures { Numbered n lab.old lab.new }
 {
-    let mut j: u32 = 0;
-    while j < n {
+    for j in 0..n {
         put(lab, j as usize, j);
-        j += 1;
     }
 }
 
@@ -86,12 +77,10 @@ fn number(lab: &mut [u32], n: u32)
 fn relabel(lab: &mut [u32], n: u32, old: u32, new: u32)
     ensures { Relabelled n old new lab.old lab.new }
 {
-    let mut j: u32 = 0;
-    while j < n {
+    for j in 0..n {
         if word(lab, j as usize) == old {
             put(lab, j as usize, new);
         }
-        j += 1;
     }
 }
 
@@ -132,9 +121,7 @@ fn merge_row(
 )
     ensures { a < n → Merged (link_in w.now caps rows.now v.0 cells.now) n (Pairs a 0 a) lab.old lab.new }
 {
-    let mut b: u32 = a;
-    while 0 < b {
-        b -= 1;
+    for b in (0..a).rev() {
         merge_pair(w, caps, rows, v, cells, n, a as usize, b as usize, lab);
     }
 }
@@ -144,10 +131,8 @@ fn labels(w: &[u32], caps: Caps, rows: &FacetTable, v: Mark, cells: &[u32], n: u
     ensures { Labelled (link_in w.now caps rows.now v.0 cells.now) n lab.old lab.new }
 {
     number(lab, n);
-    let mut a: u32 = 0;
-    while a < n {
+    for a in 0..n {
         merge_row(w, caps, rows, v, cells, n, a, lab);
-        a += 1;
     }
 }
 
@@ -170,10 +155,7 @@ fn chosen(
         return false;
     }
     let c = Cell(word(cells, j));
-    if !wanted(w, caps, c, x % 8, only) {
-        return false;
-    }
-    facet_has(w, caps, rows, c, x % 8, v)
+    wanted(w, caps, c, x % 8, only) && facet_has(w, caps, rows, c, x % 8, v)
 }
 
 // The first such place below end; end where there is none.
@@ -190,12 +172,10 @@ fn seek(
 ) -> u32
     ensures { result ≡ seek_in w.now caps rows.now v.0 cells.now lab.now end i only }
 {
-    let mut x: u32 = 0;
-    while x < end {
+    for x in 0..end {
         if chosen(w, caps, rows, v, cells, lab, i, only, x) {
             return x;
         }
-        x += 1;
     }
     end
 }
@@ -265,15 +245,13 @@ fn list(
 {
     let mut kept = [0u32; MOST_AROUND as usize];
     let mut k: u32 = 0;
-    let mut i: u32 = 0;
-    while i < n {
+    for i in 0..n {
         let x = recall(w, caps, rows, v, cells, lab, end, i, &mut kept);
         if x / 8 == i {
             let half = half_of(Cell(word(cells, i as usize)), x % 8);
             put(out, k as usize, half.0);
             k += 1;
         }
-        i += 1;
     }
     k
 }

@@ -8,8 +8,8 @@ use borrow.Author.Tests.{le-leb, lt-leb}
 use lib.Dec.{leb}
 use lib.ListN.{length, length-take}
 use Rattle.map.specs.declared.Refusal.TheVariants.{BadFrame}
-use Rattle.map.specs.declared.Verdict.{Verdict}
-use Rattle.map.specs.declared.Verdict.TheVariants.{Refused}
+use Rattle.map.specs.declared.Refusal.{Refusal}
+use Rattle.std.specs.Prelude.{Result, ⊤, Err}
 use Rattle.map.specs.Says.{verdict_says}
 use Rattle.frames.specs.Frames.{Journal, written, output_from}
 use Rattle.frames.specs.Forms.{Appended}
@@ -31,7 +31,7 @@ has_room_so room at h = go (dec_lt room (at + 775))
     go (no f) = le-leb at (room - 775) (omega arith) ∙ sym (le-leb (at + 775) room (omega arith))
 
 -- the start, whatever comes of it
-pub start_so : (w w' : Memory) (v : Verdict) (marks cells : ℕ) → marks ≡ 0 → cells ≡ 0 → FormattedBegun marks cells w v w' → Started w v w'
+pub start_so : (w w' : Memory) (v : Result ⊤ Refusal) (marks cells : ℕ) → marks ≡ 0 → cells ≡ 0 → FormattedBegun marks cells w v w' → Started w v w'
 start_so w w' v marks cells em ec f = record {
   begins = zeros;
   stands = λ ok line fits. record { memory = zeros.keeps ok; lined = line_none line 0 fits refl };
@@ -53,10 +53,10 @@ finish_none n z o e y = rw y (record {
     go m [] h = output_end m
     go m (x ∷ xs) h = absurd (omega arith)
 
-pub finish_cut : (n z r : ℕ) (o o' : List ℕ) → (n ≡ 0 → ⊥) → z ≡ 0 → Appended (written (verdict_says (Refused BadFrame))) o z r o' → Finished n o r o'
+pub finish_cut : (n z r : ℕ) (o o' : List ℕ) → (n ≡ 0 → ⊥) → z ≡ 0 → Appended (written (verdict_says (Err BadFrame))) o z r o' → Finished n o r o'
 finish_cut n z r o o' ne y a = record {
-  text = written (verdict_says (Refused BadFrame));
-  few = omega (arith, verdict_length (Refused BadFrame));
+  text = written (verdict_says (Err BadFrame));
+  few = omega (arith, verdict_length (Err BadFrame));
   appended = rw y at a;
   ends = λ w line m l s.
       let some : 0 < length l = omega (arith, s.lined.count, length-take 65 l) in

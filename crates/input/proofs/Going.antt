@@ -261,6 +261,10 @@ module _ (w₀ : Memory) (line₀ : List ℕ) (n₀ : ℕ) (piece o₀ : List �
         nothing : drop i piece ≡ []
         nothing = let e : i ≡ length piece = omega (arith, g.taken) in rw e (drop-length piece)
 
+    -- then as many bytes are taken as it has
+    pub fed_whole : (k : ℕ) → k ≡ length piece → length piece ≤ i → Feeding w₀ line₀ n₀ piece o₀ (record { taken = k; length = n; written = at }) w line o
+    fed_whole k e h = let same : k ≡ i = omega (arith, g.taken) in rw same (fed_all h)
+
     -- or there is no room for an answer
     pub fed_full : leb (at + 775) (length o₀) ≡ false → Feeding w₀ line₀ n₀ piece o₀ (record { taken = i; length = n; written = at }) w line o
     fed_full h =

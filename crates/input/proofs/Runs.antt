@@ -10,8 +10,8 @@ use lib.ListN.{length, take, drop}
 use lib.Seq.{take_at}
 use Rattle.lists.specs.Lists.{has}
 use Rattle.lists.proofs.Counts.{neither}
-use Rattle.map.specs.declared.Verdict.{Verdict}
-use Rattle.map.specs.declared.Verdict.TheVariants.{Accepted}
+use Rattle.map.specs.declared.Refusal.{Refusal}
+use Rattle.std.specs.Prelude.{Result, ⊤, Ok}
 use Rattle.frames.specs.Frames.{Journal, begun, Bad, reply_to, journal_after, written, output_from, output}
 use Rattle.frames.proofs.Append.{append_fits}
 use Rattle.frames.proofs.Steps.{output_more, output_line}
@@ -56,7 +56,7 @@ run_inside done = within_none
 run_inside (then piece r f rest) = inside_then f.inside (run_inside rest)
 
 -- cut nowhere: from the start on, with a journal of 1,000 places, what the feeds wrote, then what `finish` wrote, is the output of all the bytes together
-pub run_output : {w₀ w w' : Memory} {line line' input text o o' : List ℕ} {v : Verdict} {n r : ℕ} → Started w₀ v w → v ≡ Accepted → places_of (length w₀.journal) ≡ 1000 → 65 ≤ length line
+pub run_output : {w₀ w w' : Memory} {line line' input text o o' : List ℕ} {v : Result ⊤ Refusal} {n r : ℕ} → Started w₀ v w → v ≡ (Ok tt) → places_of (length w₀.journal) ≡ 1000 → 65 ≤ length line
     → InPieces w line 0 input text w' line' n → Finished n o r o' → 3 ≤ length o → text ++ take r o' ≡ output input
 unfolding output
 run_output {w' = w'} {line = line} {line' = line'} {input = input} {text = text} {o = o} {o' = o'} {n = n} {r = r} start ok places fits run end enough =

@@ -1,8 +1,7 @@
 -- What the public calls promise.
-use Rattle.std.specs.Prelude.{◌≡◌, Bool, true, false, cond, ◌&&◌, List, [], ◌∷◌, ◌++◌, ℕ, suc, ◌+◌, ◌-◌, ◌<◌, ◌≤◌, eqb, ltb, length, set, take, drop}
+use Rattle.std.specs.Prelude.{◌≡◌, Bool, true, false, cond, ◌&&◌, List, [], ◌∷◌, ◌++◌, ℕ, suc, ◌+◌, ◌-◌, ◌<◌, ◌≤◌, eqb, ltb, length, set, take, drop, Result, ⊤, Ok}
 use Rattle.words.specs.Words.{Only, part_of}
-use Rattle.map.specs.declared.Verdict.{Verdict}
-use Rattle.map.specs.declared.Verdict.TheVariants.{Accepted}
+use Rattle.map.specs.declared.Refusal.{Refusal}
 use Rattle.journal_store.specs.Entries.{places_of}
 use Rattle.frames.specs.Frames.{frame_of, Journal, begun, reply_to, journal_after, written, output_from}
 use Rattle.frames.specs.Forms.{Appended}
@@ -13,9 +12,9 @@ use Rattle.input.specs.declared.Places.{Places}
 use Rattle.input.specs.Standing.{Lined, Standing, Reached}
 
 -- "It starts with capacities 0 and 0", and "its start .. begin[s]" a journal; memory without room is refused and stays as it was
-pub record Started (w : Memory) (r : Verdict) (w' : Memory) : Type 0 where
+pub record Started (w : Memory) (r : Result ⊤ Refusal) (w' : Memory) : Type 0 where
   pub begins : FormattedBegun 0 0 w r w'
-  pub stands : r ≡ Accepted → (line : List ℕ) → 65 ≤ length line → Standing w' line 0 (begun (places_of (length w.journal)) 0 0) []
+  pub stands : r ≡ (Ok tt) → (line : List ℕ) → 65 ≤ length line → Standing w' line 0 (begun (places_of (length w.journal)) 0 0) []
 
 -- a line has a place for one byte more: 65 are kept, as far as it is so long
 unfoldable pub has_place : List ℕ → ℕ → Bool

@@ -15,7 +15,7 @@ ghost use Rattle.reply.specs.Memory.{memory};
 ghost use Rattle.input.specs.Fed.{Started, KeptByte, Taken, Feeding, Finished};
 
 use frames::write_verdict;
-use map::{Refusal, Verdict};
+use map::Refusal;
 use reply::{format_and_begin, reply};
 
 const LINE_END: u8 = 0x0a;
@@ -35,7 +35,7 @@ pub struct Fed {
 }
 
 // A mesh of capacities 0 and 0 and its journal, in words with room for the largest.
-pub fn start(mesh: &mut [u32], journal: &mut [u32], starting: &mut [u32]) -> Verdict
+pub fn start(mesh: &mut [u32], journal: &mut [u32], starting: &mut [u32]) -> Result<(), Refusal>
     ensures { Started (memory mesh.old journal.old starting.old) result (memory mesh.new journal.new starting.new) }
 {
     format_and_begin(mesh, journal, starting, 0, 0)
@@ -123,16 +123,21 @@ pub fn feed(
 {
     let room = out.len();
     let mut n = length;
-    let mut i = 0;
     let mut at = 0;
-    while i < piece.len() && has_room(room, at) {
-        let next = take_byte(mesh, journal, starting, line, n, piece[i], out, at);
+    for (i, b) in piece.iter().enumerate() {
+        if !has_room(room, at) {
+            return Fed {
+                taken: i,
+                length: n,
+                written: at,
+            };
+        }
+        let next = take_byte(mesh, journal, starting, line, n, *b, out, at);
         n = next.line;
         at = next.out;
-        i += 1;
     }
     Fed {
-        taken: i,
+        taken: piece.len(),
         length: n,
         written: at,
     }
@@ -145,5 +150,5 @@ pub fn finish(length: usize, out: &mut [u8]) -> usize
     if length == 0 {
         return 0;
     }
-    write_verdict(out, 0, Verdict::Refused(Refusal::BadFrame))
+    write_verdict(out, 0, Err(Refusal::BadFrame))
 }

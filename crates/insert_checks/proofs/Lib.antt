@@ -1,4 +1,5 @@
 -- The laws of admitting a cell.
+pub mod Ranges
 pub mod Alike
 pub mod Faces
 pub mod Rows

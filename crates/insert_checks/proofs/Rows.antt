@@ -20,7 +20,7 @@ use Rattle.map.specs.Stars.{holders}
 use Rattle.map.specs.Answers.{◌when◌, answer, third, insert_checks}
 use Rattle.map.specs.Says.{given, refused, verdict_says}
 use Rattle.map.specs.declared.Refusal.TheVariants.{CellOutside, CellLive, TypeUnknown, CountWrong, MarkOutside, MarkTwice, CellSame, MarkFull, FaceFull}
-use Rattle.map.specs.declared.Verdict.TheVariants.{Accepted, Refused}
+use Rattle.std.specs.Prelude.{Ok, Err}
 use Rattle.picture.specs.State.{state_of}
 use Rattle.picture.specs.Picture.{Wf}
 use Rattle.picture.proofs.Settles.{wf_pic, wf_settled, wf_map}
@@ -32,7 +32,7 @@ use Rattle.insert_checks.specs.Admit.{full_in, Same, Known, Tells}
 use Rattle.shapes.proofs.Types.{type_marks}
 
 module _ (w : List ℕ) (caps : Caps) (c : ℕ) (b : Body) where
-  pub in_outside : caps.cells ≤ c → Checked w caps (λ m. insert_checks m c b) (Refused CellOutside)
+  pub in_outside : caps.cells ≤ c → Checked w caps (λ m. insert_checks m c b) (Err CellOutside)
   unfolding insert_checks ◌when◌ answer verdict_says refused
   in_outside h = record { says = λ m e wf. rw (le-leb m.caps.cells c (omega (arith, cells_of_lem caps m e))) }
 
@@ -40,7 +40,7 @@ module _ (w : List ℕ) (caps : Caps) (c : ℕ) (b : Body) where
     below : (m : Map) → m.caps ≡ caps → leb m.caps.cells c ≡ false
     below m e = lt-leb m.caps.cells c (omega (arith, cells_of_lem caps m e))
 
-    pub in_live : (x ≡ 0 → ⊥) → Checked w caps (λ m. insert_checks m c b) (Refused CellLive)
+    pub in_live : (x ≡ 0 → ⊥) → Checked w caps (λ m. insert_checks m c b) (Err CellLive)
     unfolding insert_checks ◌when◌ answer verdict_says refused live
     in_live some = record
         { says = λ m e wf. rw (below m e, ne_eqb (m.at c).code 0 (λ z. some (word ∙ (code_of caps m e w wf c h ∙ z)))) }
@@ -51,7 +51,7 @@ module _ (w : List ℕ) (caps : Caps) (c : ℕ) (b : Body) where
       dead m e wf = rw (eq-eqb (m.at c).code 0 (sym (code_of caps m e w wf c h) ∙ (sym word ∙ zero)))
 
       module _ (d : ℕ) (dimension : d ≡ (shape b.code).dimension) where
-        pub in_type : d ≡ 0 → Checked w caps (λ m. insert_checks m c b) (Refused TypeUnknown)
+        pub in_type : d ≡ 0 → Checked w caps (λ m. insert_checks m c b) (Err TypeUnknown)
         unfolding insert_checks ◌when◌ answer verdict_says refused
         in_type z = record { says = λ m e wf. rw (below m e, dead m e wf, eq-eqb (shape b.code).dimension 0 (sym dimension ∙ z)) }
 
@@ -59,7 +59,7 @@ module _ (w : List ℕ) (caps : Caps) (c : ℕ) (b : Body) where
           known : eqb (shape b.code).dimension 0 ≡ false
           known = ne_eqb (shape b.code).dimension 0 (λ z. some (dimension ∙ z))
 
-          pub in_count : (length b.marks ≡ n → ⊥) → Checked w caps (λ m. insert_checks m c b) (Refused CountWrong)
+          pub in_count : (length b.marks ≡ n → ⊥) → Checked w caps (λ m. insert_checks m c b) (Err CountWrong)
           unfolding insert_checks ◌when◌ answer verdict_says refused
           in_count ne = record
               { says = λ m e wf. rw (below m e, dead m e wf, known, ne_eqb (length b.marks) (shape b.code).marks (λ q. ne (q ∙ sym count))) }
@@ -68,7 +68,7 @@ module _ (w : List ℕ) (caps : Caps) (c : ℕ) (b : Body) where
             right : eqb (length b.marks) (shape b.code).marks ≡ true
             right = eq-eqb (length b.marks) (shape b.code).marks (size ∙ count)
 
-            pub in_mark : any (leb caps.marks) b.marks ≡ true → Checked w caps (λ m. insert_checks m c b) (Refused MarkOutside)
+            pub in_mark : any (leb caps.marks) b.marks ≡ true → Checked w caps (λ m. insert_checks m c b) (Err MarkOutside)
             unfolding insert_checks ◌when◌ answer verdict_says refused
             in_mark q = record { says = λ m e wf. rw (below m e, dead m e wf, known, right, marks_of_lem caps m e, q) }
 
@@ -76,7 +76,7 @@ module _ (w : List ℕ) (caps : Caps) (c : ℕ) (b : Body) where
               within : (m : Map) → m.caps ≡ caps → any (leb m.caps.marks) b.marks ≡ false
               within m e = rw (marks_of_lem caps m e) inside
 
-              pub in_twice : repeats b.marks ≡ true → Checked w caps (λ m. insert_checks m c b) (Refused MarkTwice)
+              pub in_twice : repeats b.marks ≡ true → Checked w caps (λ m. insert_checks m c b) (Err MarkTwice)
               unfolding insert_checks ◌when◌ answer verdict_says refused
               in_twice q = record { says = λ m e wf. rw (below m e, dead m e wf, known, right, within m e, q) }
 
@@ -92,7 +92,7 @@ module _ (w : List ℕ) (caps : Caps) (c : ℕ) (b : Body) where
                     first : 0 < length b.marks
                     first = omega (arith, type_marks b.code positive)
 
-                pub in_same : r ≡ true → Checked w caps (λ m. insert_checks m c b) (Refused CellSame)
+                pub in_same : r ≡ true → Checked w caps (λ m. insert_checks m c b) (Err CellSame)
                 unfolding insert_checks ◌when◌ answer verdict_says refused
                 in_same q = record { says = λ m e wf. rw (below m e, dead m e wf, known, right, within m e, once, ← other m e wf, q) }
 
@@ -100,7 +100,7 @@ module _ (w : List ℕ) (caps : Caps) (c : ℕ) (b : Body) where
                   faces : (m : Map) → m.caps ≡ caps → Wf w m → t ≡ third m b
                   faces m e wf = solids.tells m e wf (record { count = size ∙ count; inside = inside })
 
-                  pub in_third : t ≡ true → Checked w caps (λ m. insert_checks m c b) (Refused FaceFull)
+                  pub in_third : t ≡ true → Checked w caps (λ m. insert_checks m c b) (Err FaceFull)
                   unfolding insert_checks ◌when◌ answer verdict_says refused
                   in_third q = record
                       { says = λ m e wf. rw (below m e, dead m e wf, known, right, within m e, once, ← other m e wf, new, ← faces m e wf, q) }
@@ -117,12 +117,12 @@ module _ (w : List ℕ) (caps : Caps) (c : ℕ) (b : Body) where
                         (count_word w caps (state_of m) (wf_pic w caps m e wf) v low
                         ∙ ap length (chain_holders caps (state_of m) (wf_settled w caps m e wf).ready v ∙ ap (λ (k : Map). holders k v) (wf_map w caps m e wf))))
 
-                    pub in_full : f ≡ true → Checked w caps (λ m. insert_checks m c b) (Refused MarkFull)
+                    pub in_full : f ≡ true → Checked w caps (λ m. insert_checks m c b) (Err MarkFull)
                     unfolding insert_checks ◌when◌ answer verdict_says refused
                     in_full q = record
                         { says = λ m e wf. rw (below m e, dead m e wf, known, right, within m e, once, ← other m e wf, new, ← faces m e wf, sole, ← counts m e wf, q) }
 
-                    pub in_good : f ≡ false → Checked w caps (λ m. insert_checks m c b) Accepted
+                    pub in_good : f ≡ false → Checked w caps (λ m. insert_checks m c b) (Ok tt)
                     unfolding insert_checks ◌when◌ answer verdict_says given
                     in_good q = record
                         { says = λ m e wf. rw (below m e, dead m e wf, known, right, within m e, once, ← other m e wf, new, ← faces m e wf, sole, ← counts m e wf, q) }

@@ -16,38 +16,27 @@ ghost use Rattle.checks.specs.Opening.{Opens};
 ghost use Rattle.insert_checks.specs.Admit.{same_in, full_in, Same, Known, full_face, Tells};
 
 use chain::{gather, leads_out};
-use checks::Opening;
 use facet::{facet_set, marks_at};
 use lists::{reaches, repeats, same_set};
-use map::{Refusal, Verdict};
+use map::Refusal;
 use numbers::{Caps, Cell, MOST_AROUND, Mark, SECOND_EDITION};
 use shapes::{FacetTable, MOST_CORNERS, dimension, facet_count, facet_table, mark_count};
 use sibling::sharers;
-use store::{Opened, code_of, held_of, open};
+use store::{code_of, held_of, open};
 use words::{part, word};
 
 // The cell's record is of the type, with the same set of marks.
 fn same_record(w: &[u32], caps: Caps, c: Cell, t: u32, marks: &[u32]) -> bool
     ensures { result ≡ same_in w.now caps t marks.now c.0 }
 {
-    if code_of(w, caps, c) != t {
-        return false;
-    }
-    same_set(marks_at(w, caps, c), marks)
+    code_of(w, caps, c) == t && same_set(marks_at(w, caps, c), marks)
 }
 
 // Whether one of the first n cells is of the type, with the same set of marks.
 fn one_same(w: &[u32], caps: Caps, t: u32, marks: &[u32], cells: &[u32], n: u32) -> bool
     ensures { result ≡ any (same_in w.now caps t marks.now) (list_of n (λ i. get_or cells.now i 0)) }
 {
-    let mut i: u32 = 0;
-    while i < n {
-        if same_record(w, caps, Cell(word(cells, i as usize)), t, marks) {
-            return true;
-        }
-        i += 1;
-    }
-    false
+    (0..n).any(|i| same_record(w, caps, Cell(word(cells, i as usize)), t, marks))
 }
 
 // Whether a live cell of that type has the same set of marks.
@@ -78,12 +67,10 @@ fn one_full(w: &[u32], caps: Caps, rows: &FacetTable, t: u32, marks: &[u32]) -> 
     ensures { Tells w.now caps (Known caps t marks.now × (rows.now ≡ table)) (λ m. any (full_face m) (sets_of t marks.now)) result }
 {
     let n = facet_count(t);
-    let mut f: u32 = 0;
-    while f < n {
+    for f in 0..n {
         if face_full(w, caps, rows, t, f, marks) {
             return true;
         }
-        f += 1;
     }
     false
 }
@@ -106,59 +93,50 @@ pub fn third_solid(w: &[u32], caps: Caps, t: u32, marks: &[u32]) -> bool
 pub fn full_mark(w: &[u32], caps: Caps, marks: &[u32]) -> bool
     ensures { result ≡ any (full_in w.now caps) marks.now }
 {
-    let mut i = 0;
-    while i < marks.len() {
-        if MOST_AROUND <= held_of(w, caps, Mark(marks[i])) {
-            return true;
-        }
-        i += 1;
-    }
-    false
+    marks
+        .iter()
+        .any(|v| MOST_AROUND <= held_of(w, caps, Mark(*v)))
 }
 
 // The checks of an insert.
-fn check_insert(w: &[u32], caps: Caps, c: Cell, t: u32, marks: &[u32]) -> Verdict
+fn check_insert(w: &[u32], caps: Caps, c: Cell, t: u32, marks: &[u32]) -> Result<(), Refusal>
     ensures { Checked w.now caps (λ m. insert_checks m c.0 (body_of t marks.now)) result }
 {
     if caps.cells <= c.0 {
-        return Verdict::Refused(Refusal::CellOutside);
+        return Err(Refusal::CellOutside);
     }
     if code_of(w, caps, c) != 0 {
-        return Verdict::Refused(Refusal::CellLive);
+        return Err(Refusal::CellLive);
     }
     if dimension(t) == 0 {
-        return Verdict::Refused(Refusal::TypeUnknown);
+        return Err(Refusal::TypeUnknown);
     }
     if marks.len() != mark_count(t) as usize {
-        return Verdict::Refused(Refusal::CountWrong);
+        return Err(Refusal::CountWrong);
     }
     if reaches(marks, caps.marks) {
-        return Verdict::Refused(Refusal::MarkOutside);
+        return Err(Refusal::MarkOutside);
     }
     if repeats(marks) {
-        return Verdict::Refused(Refusal::MarkTwice);
+        return Err(Refusal::MarkTwice);
     }
     if same_cell(w, caps, t, marks) {
-        return Verdict::Refused(Refusal::CellSame);
+        return Err(Refusal::CellSame);
     }
     if third_solid(w, caps, t, marks) {
-        return Verdict::Refused(Refusal::FaceFull);
+        return Err(Refusal::FaceFull);
     }
     if full_mark(w, caps, marks) {
-        return Verdict::Refused(Refusal::MarkFull);
+        return Err(Refusal::MarkFull);
     }
-    Verdict::Accepted
+    Ok(())
 }
 
 // An insert: what opens it.
-pub fn about_insert(w: &[u32], c: Cell, t: u32, marks: &[u32]) -> Opening
+pub fn about_insert(w: &[u32], c: Cell, t: u32, marks: &[u32]) -> Result<Caps, Refusal>
     ensures { Opens w.now (λ m. insert_checks m c.0 (body_of t marks.now)) result }
 {
-    let Opened::Mesh(caps) = open(w) else {
-        return Opening::Refused(Refusal::NotMesh);
-    };
-    match check_insert(w, caps, c, t, marks) {
-        Verdict::Refused(why) => Opening::Refused(why),
-        Verdict::Accepted => Opening::Open(caps),
-    }
+    let caps = open(w)?;
+    check_insert(w, caps, c, t, marks)?;
+    Ok(caps)
 }

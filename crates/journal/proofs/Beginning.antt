@@ -13,14 +13,13 @@ use Rattle.words.specs.Words.{part_of, Only}
 use Rattle.words.proofs.Frame.{only_none, only_wider}
 use Rattle.words.proofs.Fits.{part_fits}
 use Rattle.store.specs.Open.{room_in, caps_in, is_mesh, opened}
-use Rattle.store.specs.declared.Opened.TheVariants.{Mesh, Nothing}
+use Rattle.std.specs.Prelude.{Ok, Err}
 use Rattle.map.specs.Cells.{Map}
 use Rattle.map.specs.Answers.{◌when◌, answer}
 use Rattle.map.specs.History.{history}
 use Rattle.map.specs.Says.{given, refused, verdict_says}
 use Rattle.map.specs.declared.Refusal.{Refusal}
 use Rattle.map.specs.declared.Refusal.TheVariants.{NotMesh, MemoryShort}
-use Rattle.map.specs.declared.Verdict.TheVariants.{Accepted, Refused}
 use Rattle.picture.specs.Picture.{Wf}
 use Rattle.checks.proofs.Opens.{nothing_opened, mesh_opened, wf_mesh, wf_caps}
 use Rattle.edits.proofs.Cut.{wf_alike}
@@ -35,7 +34,7 @@ use Rattle.journal.specs.Calls.{Begun}
 use Rattle.journal.proofs.Both.{opened_room}
 
 module _ (mesh j start : List ℕ) where
-  pub begin_none : Nothing ≡ opened mesh → Begun mesh j start (Refused NotMesh) j start
+  pub begin_none : (Err NotMesh) ≡ opened mesh → Begun mesh j start (Err NotMesh) j start
   begin_none e = record {
     refused = λ n. refl;
     kept = λ why q. (refl, refl);
@@ -44,10 +43,10 @@ module _ (mesh j start : List ℕ) where
     answers = λ m wf. absurd (clash (wf_mesh mesh m wf) (nothing_opened mesh e));
   }
 
-  module _ (caps : Caps) (opens : Mesh caps ≡ opened mesh) where
+  module _ (caps : Caps) (opens : Ok caps ≡ opened mesh) where
     -- refused with 2
     begin_two : ((m : Map) → m.caps ≡ caps → refused MemoryShort ≡ begin_answer (room m.caps.marks m.caps.cells) (length j) (length start))
-        → Begun mesh j start (Refused MemoryShort) j start
+        → Begun mesh j start (Err MemoryShort) j start
     unfolding verdict_says
     begin_two says = record {
       refused = λ n. absurd (clash (mesh_opened mesh caps opens).0 n);
@@ -57,12 +56,12 @@ module _ (mesh j start : List ℕ) where
       answers = λ m wf. (says m (wf_caps mesh m wf caps opens), λ q. let z : ◌≡◌ {A = ℕ} 0 1 = cc in absurd (omega arith));
     }
 
-    pub begin_short : length j < head_words → Begun mesh j start (Refused MemoryShort) j start
+    pub begin_short : length j < head_words → Begun mesh j start (Err MemoryShort) j start
     unfolding begin_answer ◌when◌ answer refused
     begin_short h = begin_two (λ m e. rw (lt-ltb (length j) 16 h))
 
     module _ (long : head_words ≤ length j) (r : ℕ) (er : r ≡ room caps.marks caps.cells) where
-      pub begin_room : length start < r → Begun mesh j start (Refused MemoryShort) j start
+      pub begin_room : length start < r → Begun mesh j start (Err MemoryShort) j start
       unfolding begin_answer ◌when◌ answer refused
       begin_room h =
           begin_two (λ m e.
@@ -76,7 +75,7 @@ module _ (mesh j start : List ℕ) where
         cleared : Copied [] 0 used j j₁
         cleared = rw empty at clear
 
-        says : (m : Map) → m.caps ≡ caps → verdict_says Accepted ≡ begin_answer (room m.caps.marks m.caps.cells) (length j) (length start)
+        says : (m : Map) → m.caps ≡ caps → verdict_says (Ok tt) ≡ begin_answer (room m.caps.marks m.caps.cells) (length j) (length start)
         unfolding begin_answer ◌when◌ answer verdict_says given
         says m e =
             rw (le-ltb (length j) 16 long, e, le-ltb (length start) (room caps.marks caps.cells) (omega arith))
@@ -102,7 +101,7 @@ module _ (mesh j start : List ℕ) where
           today = wf;
         }
 
-        pub begin_made : Begun mesh j start Accepted j' start'
+        pub begin_made : Begun mesh j start (Ok tt) j' start'
         begin_made = record {
           refused = λ n. absurd (clash (mesh_opened mesh caps opens).0 n);
           kept = λ why q. absurd (let z : ◌≡◌ {A = ℕ} 0 1 = cc in omega arith);

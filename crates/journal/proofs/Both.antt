@@ -7,7 +7,8 @@ use native.Mathlib.Omega.{arith}
 use Rattle.numbers.specs.Room.{room}
 use Rattle.numbers.specs.declared.Caps.{Caps}
 use Rattle.store.specs.Open.{room_in, caps_in, is_mesh, opened}
-use Rattle.store.specs.declared.Opened.TheVariants.{Mesh, Nothing}
+use Rattle.map.specs.declared.Refusal.TheVariants.{NotMesh}
+use Rattle.std.specs.Prelude.{Ok, Err}
 use Rattle.map.specs.Cells.{Map}
 use Rattle.picture.specs.Picture.{Wf}
 use Rattle.checks.proofs.Opens.{nothing_opened, mesh_opened, head_marks, head_cells, head_edition, wf_mesh, wf_caps}
@@ -22,11 +23,11 @@ unfolding map_after
 after_caps m es = history_caps m _
 
 module _ (w j : List ℕ) where
-  pub none_both : Nothing ≡ opened w → both w j ≡ false
+  pub none_both : (Err NotMesh) ≡ opened w → both w j ≡ false
   unfolding both
   none_both e = rw (nothing_opened w e)
 
-  module _ (caps : Caps) (opens : Mesh caps ≡ opened w) where
+  module _ (caps : Caps) (opens : Ok caps ≡ opened w) where
     pub opened_both : both w j ≡ is_journal j caps
     unfolding both
     opened_both = rw ((mesh_opened w caps opens).0, ← (mesh_opened w caps opens).1)

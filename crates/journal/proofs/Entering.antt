@@ -14,21 +14,17 @@ use Rattle.words.specs.Words.{part_of}
 use Rattle.words.proofs.Frame.{only_none}
 use Rattle.words.proofs.Fits.{part_fits}
 use Rattle.store.specs.Open.{caps_in, opened}
-use Rattle.store.specs.declared.Opened.TheVariants.{Mesh}
+use Rattle.std.specs.Prelude.{Result, ⊤, Ok, Err}
 use Rattle.map.specs.Cells.{Map, licensed_body}
 use Rattle.map.specs.Answers.{Answer, Check, ◌when◌, answer}
 use Rattle.map.specs.History.{Edit, Insert, Remove, edit_answer, edited, history}
 use Rattle.map.specs.Says.{number_of, given, refused, verdict_says}
 use Rattle.map.specs.declared.Refusal.{Refusal}
 use Rattle.map.specs.declared.Refusal.TheVariants.{NotMesh, CapacityAbove, DayBefore, JournalFull}
-use Rattle.map.specs.declared.Verdict.{Verdict}
-use Rattle.map.specs.declared.Verdict.TheVariants.{Accepted, Refused}
 use Rattle.map.proofs.Refusals.{number_some}
 use Rattle.laws.proofs.Edits.{may_insert}
 use Rattle.picture.specs.Picture.{Wf}
 use Rattle.checks.specs.Opening.{Opens}
-use Rattle.checks.specs.declared.Opening.{Opening}
-use Rattle.checks.specs.declared.Opening.TheVariants as Opening'
 use Rattle.checks.proofs.Opens.{wf_caps, mesh_opened}
 use Rattle.mesh.specs.Edited.{Edited}
 use Rattle.journal_store.specs.Days as D
@@ -124,10 +120,10 @@ module _ (mesh j : List ℕ) (e : Dated) where
   -- a refusal
   entered_refused : (why : Refusal) → (both mesh j ≡ false → why ≡ NotMesh)
       → ((m : Map) (past : List Dated) (fold : ℕ) (start : List ℕ) → Kept m past fold mesh j start → enter_answer m past fold (places_of (length j)) e ≡ refused why)
-      → Entered mesh j e (Refused why) mesh j
+      → Entered mesh j e (Err why) mesh j
   unfolding verdict_says
   entered_refused why none says = record {
-    refused = λ n. ap Refused (none n);
+    refused = λ n. ap Err (none n);
     kept = λ other q. (refl, refl);
     within = only_none;
     inside = only_none;
@@ -137,13 +133,13 @@ module _ (mesh j : List ℕ) (e : Dated) where
   }
 
   -- by what opens it
-  pub entry_refused : (opening : Opening) → opening ≡ entry_opened mesh j e.day → (why : Refusal) → opening ≡ Opening'.Refused why → Entered mesh j e (Refused why) mesh j
+  pub entry_refused : (opening : Result Caps Refusal) → opening ≡ entry_opened mesh j e.day → (why : Refusal) → opening ≡ Err why → Entered mesh j e (Err why) mesh j
   unfolding entry_opened
   entry_refused opening eo why ew = go (both mesh j) refl (ltb most_day e.day) refl (ltb e.day (last_in j)) refl (sym ew ∙ eo)
     where
       go : (a : Bool) → both mesh j ≡ a → (b : Bool) → ltb most_day e.day ≡ b → (c : Bool) → ltb e.day (last_in j) ≡ c
-          → Opening'.Refused why ≡ cond a (cond b (Opening'.Refused CapacityAbove) (cond c (Opening'.Refused DayBefore) (Opening'.Open (caps_in mesh)))) (Opening'.Refused NotMesh)
-          → Entered mesh j e (Refused why) mesh j
+          → Err why ≡ cond a (cond b (Err CapacityAbove) (cond c (Err DayBefore) (Ok (caps_in mesh)))) (Err NotMesh)
+          → Entered mesh j e (Err why) mesh j
       go true ea true eb c ec q =
           let same : why ≡ CapacityAbove = cc in
           rw same (entered_refused CapacityAbove (λ n. absurd (clash ea n)) (λ m past fold start k. enter_above m past fold _ e (ltb-true _ _ eb)))
@@ -164,12 +160,12 @@ module _ (mesh j : List ℕ) (e : Dated) where
     pub late : last_in j ≤ e.day
     pub caps_are : caps ≡ caps_in mesh
 
-  pub entry_open : (opening : Opening) → opening ≡ entry_opened mesh j e.day → (caps : Caps) → opening ≡ Opening'.Open caps → Told caps
+  pub entry_open : (opening : Result Caps Refusal) → opening ≡ entry_opened mesh j e.day → (caps : Caps) → opening ≡ Ok caps → Told caps
   unfolding entry_opened
   entry_open opening eo caps ew = go (both mesh j) refl (ltb most_day e.day) refl (ltb e.day (last_in j)) refl (sym ew ∙ eo)
     where
       go : (a : Bool) → both mesh j ≡ a → (b : Bool) → ltb most_day e.day ≡ b → (c : Bool) → ltb e.day (last_in j) ≡ c
-          → Opening'.Open caps ≡ cond a (cond b (Opening'.Refused CapacityAbove) (cond c (Opening'.Refused DayBefore) (Opening'.Open (caps_in mesh)))) (Opening'.Refused NotMesh)
+          → Ok caps ≡ cond a (cond b (Err CapacityAbove) (cond c (Err DayBefore) (Ok (caps_in mesh)))) (Err NotMesh)
           → Told caps
       go true ea true eb c ec q = absurd (let z : ◌≡◌ {A = ℕ} 0 1 = cc in omega arith)
       go true ea false eb true ec q = absurd (let z : ◌≡◌ {A = ℕ} 0 1 = cc in omega arith)
@@ -178,20 +174,20 @@ module _ (mesh j : List ℕ) (e : Dated) where
 
   module _ (caps : Caps) (o : Told caps) where
     -- by the mesh's own checks
-    own : (why : Refusal) → ((m : Map) → Wf mesh m → refused why ≡ edit_answer m e.edit) → Entered mesh j e (Refused why) mesh j
+    own : (why : Refusal) → ((m : Map) → Wf mesh m → refused why ≡ edit_answer m e.edit) → Entered mesh j e (Err why) mesh j
     own why says =
         entered_refused why (λ n. absurd (clash o.both_are n)) (λ m past fold start k.
         enter_own m past fold _ e o.few (omega (arith, o.late, kept_last k)) why (says (map_after m past) k.today))
 
     -- "then 23 if the journal is full"
     pub entry_full : (full : Bool) → full ≡ full_in j → full ≡ true → (checks : Map → List Check) → ((m : Map) → edit_answer m e.edit ≡ answer (checks m) [])
-        → (opening : Opening) → Opens mesh checks opening → (r : Verdict) → r ≡ full_verdict opening → Entered mesh j e r mesh j
+        → (opening : Result Caps Refusal) → Opens mesh checks opening → (r : Result ⊤ Refusal) → r ≡ full_verdict opening → Entered mesh j e r mesh j
     unfolding full_in full_verdict verdict_says given
-    entry_full full ef et checks says opening opens r er = subst (λ (v : Verdict). Entered mesh j e v mesh j) (sym er) (go opening opens)
+    entry_full full ef et checks says opening opens r er = subst (λ (v : Result ⊤ Refusal). Entered mesh j e v mesh j) (sym er) (go opening opens)
       where
-        go : (x : Opening) → Opens mesh checks x → Entered mesh j e (full_verdict x) mesh j
-        go (Opening'.Refused why) p = own why (λ m wf. p.fails why refl m wf ∙ sym (says m))
-        go (Opening'.Open other) p =
+        go : (x : Result Caps Refusal) → Opens mesh checks x → Entered mesh j e (full_verdict x) mesh j
+        go (Err why) p = own why (λ m wf. p.fails why refl m wf ∙ sym (says m))
+        go (Ok other) p =
             entered_refused JournalFull (λ n. absurd (clash o.both_are n)) (λ m past fold start k.
             let opens = p.opens other refl in
             let wf = k.today in
@@ -200,10 +196,10 @@ module _ (mesh j : List ℕ) (e : Dated) where
             enter_full m past fold _ e o.few (omega (arith, o.late, kept_last k)) ok (omega (arith, leb-true (places_of (length j)) (entries_in j) (sym ef ∙ et), kept_entries k)))
 
     -- refused by the edit itself
-    pub entry_own : (mesh' : List ℕ) (why : Refusal) (r : Verdict) → Edited mesh e.edit r mesh' → r ≡ Refused why → Entered mesh j e (Refused why) mesh' j
+    pub entry_own : (mesh' : List ℕ) (why : Refusal) (r : Result ⊤ Refusal) → Edited mesh e.edit r mesh' → r ≡ Err why → Entered mesh j e (Err why) mesh' j
     unfolding verdict_says
     entry_own mesh' why r did er =
-        subst (λ (w : List ℕ). Entered mesh j e (Refused why) w j) (sym (did.kept why er))
+        subst (λ (w : List ℕ). Entered mesh j e (Err why) w j) (sym (did.kept why er))
         (own why (λ m wf. ap verdict_says (sym er) ∙ (did.answers m wf).0))
 
     -- made, and entered
@@ -211,8 +207,8 @@ module _ (mesh j : List ℕ) (e : Dated) where
       entry_room : entries_in j < places_of (length j)
       entry_room = room_left j full ef et
 
-      pub entry_made : (mesh' j' : List ℕ) (r : Verdict) (words : List ℕ) → Edited mesh e.edit r mesh' → r ≡ Accepted → words_of e ≡ words
-          → Appended j caps e.day words j' → Entered mesh j e Accepted mesh' j'
+      pub entry_made : (mesh' j' : List ℕ) (r : Result ⊤ Refusal) (words : List ℕ) → Edited mesh e.edit r mesh' → r ≡ (Ok tt) → words_of e ≡ words
+          → Appended j caps e.day words j' → Entered mesh j e (Ok tt) mesh' j'
       unfolding verdict_says given
       entry_made mesh' j' r words did er ew added = record {
         refused = λ n. absurd (clash o.both_are n);

@@ -8,12 +8,9 @@ use lib.Dec.{leb, ltb}
 use lib.ListN.{length}
 use Rattle.numbers.specs.declared.Caps.{Caps}
 use Rattle.store.specs.Open.{opened}
-use Rattle.store.specs.declared.Opened.TheVariants.{Mesh, Nothing}
+use Rattle.std.specs.Prelude.{Result, Ok, Err}
 use Rattle.map.specs.declared.Refusal.{Refusal}
 use Rattle.map.specs.declared.Refusal.TheVariants.{NotMesh, CapacityAbove, DayBefore, JournalFull}
-use Rattle.map.specs.declared.Verdict.TheVariants as Verdict'
-use Rattle.checks.specs.declared.Opening.{Opening}
-use Rattle.checks.specs.declared.Opening.TheVariants.{Open, Refused}
 use Rattle.checks.proofs.Opens.{mesh_opened}
 use Rattle.journal_store.specs.Days.{most_day}
 use Rattle.journal_store.specs.Entries.{places_of}
@@ -22,29 +19,29 @@ use Rattle.journal.specs.Calls.{entry_opened, full_in, full_verdict}
 use Rattle.journal.proofs.Both.{none_both, opened_both}
 
 module _ (mesh j : List ℕ) (day : ℕ) where
-  pub opens_none : Nothing ≡ opened mesh → Refused NotMesh ≡ entry_opened mesh j day
+  pub opens_none : (Err NotMesh) ≡ opened mesh → Err NotMesh ≡ entry_opened mesh j day
   unfolding entry_opened
   opens_none e = rw (none_both mesh j e)
 
-  module _ (caps : Caps) (opens : Mesh caps ≡ opened mesh) where
-    pub opens_other : (is : Bool) → is ≡ is_journal j caps → is ≡ false → Refused NotMesh ≡ entry_opened mesh j day
+  module _ (caps : Caps) (opens : Ok caps ≡ opened mesh) where
+    pub opens_other : (is : Bool) → is ≡ is_journal j caps → is ≡ false → Err NotMesh ≡ entry_opened mesh j day
     unfolding entry_opened
     opens_other is ei ef = rw (opened_both mesh j caps opens ∙ (sym ei ∙ ef))
 
     module _ (is : Bool) (ei : is ≡ is_journal j caps) (et : is ≡ true) where
-      pub opens_above : most_day < day → Refused CapacityAbove ≡ entry_opened mesh j day
+      pub opens_above : most_day < day → Err CapacityAbove ≡ entry_opened mesh j day
       unfolding entry_opened
       opens_above h = rw (opened_both mesh j caps opens ∙ (sym ei ∙ et), lt-ltb most_day day h)
 
       module _ (few : day ≤ most_day) (last : ℕ) (el : last ≡ last_in j) where
-        pub opens_before : day < last → Refused DayBefore ≡ entry_opened mesh j day
+        pub opens_before : day < last → Err DayBefore ≡ entry_opened mesh j day
         unfolding entry_opened
         opens_before h = rw (opened_both mesh j caps opens ∙ (sym ei ∙ et), le-ltb most_day day few, ← el, lt-ltb day last h)
 
-        pub opens_open : last ≤ day → Open caps ≡ entry_opened mesh j day
+        pub opens_open : last ≤ day → Ok caps ≡ entry_opened mesh j day
         unfolding entry_opened
         opens_open h =
-            rw (opened_both mesh j caps opens ∙ (sym ei ∙ et), le-ltb most_day day few, ← el, le-ltb day last h) (ap Open (mesh_opened mesh caps opens).1)
+            rw (opened_both mesh j caps opens ∙ (sym ei ∙ et), le-ltb most_day day few, ← el, le-ltb day last h) (ap Ok (mesh_opened mesh caps opens).1)
 
 -- whether no place is left
 pub full_told : (j : List ℕ) (places entries : ℕ) → places ≡ places_of (length j) → entries ≡ entries_in j → leb places entries ≡ full_in j
@@ -52,10 +49,10 @@ unfolding full_in
 full_told j places entries ep ee = rw (ep, ee)
 
 -- in a full journal
-pub full_refused : (own : Opening) (why : Refusal) → own ≡ Refused why → Verdict'.Refused why ≡ full_verdict own
+pub full_refused : (own : Result Caps Refusal) (why : Refusal) → own ≡ Err why → Err why ≡ full_verdict own
 unfolding full_verdict
 full_refused own why e = ap full_verdict (sym e)
 
-pub full_open : (own : Opening) (caps : Caps) → own ≡ Open caps → Verdict'.Refused JournalFull ≡ full_verdict own
+pub full_open : (own : Result Caps Refusal) (caps : Caps) → own ≡ Ok caps → Err JournalFull ≡ full_verdict own
 unfolding full_verdict
 full_open own caps e = ap full_verdict (sym e)

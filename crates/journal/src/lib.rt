@@ -11,68 +11,66 @@ ghost use Rattle.std.specs.Prelude.{◌≡◌, ◌<◌, length};
 ghost use Rattle.map.specs.Cells.{licensed_body};
 ghost use Rattle.map.specs.History.{Insert, Remove};
 ghost use Rattle.journal_store.specs.Days.{dated};
-ghost use Rattle.journal_store.specs.Entries.{places_of, entry_of};
+ghost use Rattle.journal_store.specs.Entries.{places_of};
 ghost use Rattle.journal_store.specs.Journals.{entries_in};
+ghost use Rattle.journal_store.specs.Told.{entry_told};
 ghost use Rattle.journal.specs.Calls.{Begun, entry_opened, full_in, full_verdict, Appended, Entered};
 
-use checks::{Opening, about_cell};
+use checks::about_cell;
 use insert_checks::about_insert;
 use journal_store::{
-    HEAD_WORDS, copy_words, entries_of, fold_of, is_journal, last_of, places_of, used_of,
-    write_entry, write_head,
+    Entry, HEAD_WORDS, Head, Kind, copy_words, entries_of, fold_of, is_journal, last_of, places_of,
+    used_of, write_entry, write_head,
 };
-use map::{Refusal, Verdict};
+use map::Refusal;
 use mesh::{insert_licensed, remove};
 use numbers::{Caps, Cell};
-use store::{Opened, open, room_of};
+use store::{open, room_of};
 use words::part;
 
 // The largest day number.
 const MOST_DAY: u32 = 65535;
 
-// The kinds of an entry.
-const INSERT: u32 = 1;
-
-const REMOVE: u32 = 2;
-
 // A journal with no entry, of this mesh, and the mesh copied into the starting map.
-pub fn begin(mesh: &[u32], j: &mut [u32], start: &mut [u32]) -> Verdict
+pub fn begin(mesh: &[u32], j: &mut [u32], start: &mut [u32]) -> Result<(), Refusal>
     ensures { Begun mesh.now j.old start.old result j.new start.new }
 {
-    let Opened::Mesh(caps) = open(mesh) else {
-        return Verdict::Refused(Refusal::NotMesh);
-    };
+    let caps = open(mesh)?;
     if j.len() < HEAD_WORDS {
-        return Verdict::Refused(Refusal::MemoryShort);
+        return Err(Refusal::MemoryShort);
     }
     let room = room_of(caps);
     if start.len() < room {
-        return Verdict::Refused(Refusal::MemoryShort);
+        return Err(Refusal::MemoryShort);
     }
     copy_words(mesh, start, 0, room);
     let used = used_of(j.len());
     copy_words(part(mesh, 0, 0), j, 0, used);
-    write_head(j, caps, 0, 0, 0, 0);
-    Verdict::Accepted
+    let head = Head {
+        entries: 0,
+        last: 0,
+        ever: false,
+        fold: None,
+    };
+    write_head(j, caps, head);
+    Ok(())
 }
 
 // What opens an entry of a day.
-fn about_entry(mesh: &[u32], j: &[u32], day: u32) -> Opening
+fn about_entry(mesh: &[u32], j: &[u32], day: u32) -> Result<Caps, Refusal>
     ensures { result ≡ entry_opened mesh.now j.now day }
 {
-    let Opened::Mesh(caps) = open(mesh) else {
-        return Opening::Refused(Refusal::NotMesh);
-    };
+    let caps = open(mesh)?;
     if !is_journal(j, caps) {
-        return Opening::Refused(Refusal::NotMesh);
+        return Err(Refusal::NotMesh);
     }
     if MOST_DAY < day {
-        return Opening::Refused(Refusal::CapacityAbove);
+        return Err(Refusal::CapacityAbove);
     }
     if day < last_of(j) {
-        return Opening::Refused(Refusal::DayBefore);
+        return Err(Refusal::DayBefore);
     }
-    Opening::Open(caps)
+    Ok(caps)
 }
 
 // Whether no place is left.
@@ -83,33 +81,28 @@ fn is_full(j: &[u32]) -> bool
 }
 
 // The answer in a full journal: the mesh's own refusal before 23.
-fn when_full(own: Opening) -> Verdict
+fn when_full(own: Result<Caps, Refusal>) -> Result<(), Refusal>
     ensures { result ≡ full_verdict own }
 {
-    match own {
-        Opening::Refused(why) => Verdict::Refused(why),
-        Opening::Open(_) => Verdict::Refused(Refusal::JournalFull),
-    }
+    own?;
+    Err(Refusal::JournalFull)
 }
 
 // An entry behind the others.
-fn append(
-    j: &mut [u32],
-    caps: Caps,
-    day: u32,
-    kind: u32,
-    c: Cell,
-    t: u32,
-    licence: u32,
-    marks: &[u32],
-)
+fn append(j: &mut [u32], caps: Caps, dated: Entry<'_>)
     requires { entries_in j.old < places_of (length j.old) }
-    ensures { Appended j.old caps day (entry_of day kind c.0 t licence marks.now) j.new }
+    ensures { Appended j.old caps dated.entry.day (entry_told dated.entry) j.new }
 {
     let n = entries_of(j);
     let fold = fold_of(j);
-    write_entry(j, n, day, kind, c, t, licence, marks);
-    write_head(j, caps, n + 1, day, 1, fold);
+    let head = Head {
+        entries: n + 1,
+        last: dated.day,
+        ever: true,
+        fold,
+    };
+    write_entry(j, n, dated);
+    write_head(j, caps, head);
 }
 
 // A cell with a licence inserted on a day, and entered.
@@ -121,40 +114,44 @@ pub fn enter_insert(
     t: u32,
     licence: u32,
     marks: &[u32],
-) -> Verdict
+) -> Result<(), Refusal>
     ensures { Entered mesh.old j.old (dated day (Insert c.0 (licensed_body t licence marks.now))) result mesh.new j.new }
 {
-    match about_entry(mesh, j, day) {
-        Opening::Refused(why) => Verdict::Refused(why),
-        Opening::Open(caps) => {
-            if is_full(j) {
-                return when_full(about_insert(mesh, c, t, marks));
-            }
-            if let Verdict::Refused(why) = insert_licensed(mesh, c, t, licence, marks) {
-                return Verdict::Refused(why);
-            }
-            append(j, caps, day, INSERT, c, t, licence, marks);
-            Verdict::Accepted
-        }
+    let caps = about_entry(mesh, j, day)?;
+    if is_full(j) {
+        return when_full(about_insert(mesh, c, t, marks));
     }
+    insert_licensed(mesh, c, t, licence, marks)?;
+    let inserted = Entry {
+        day,
+        kind: Kind::Insert,
+        cell: c,
+        code: t,
+        licence,
+        marks,
+    };
+    append(j, caps, inserted);
+    Ok(())
 }
 
 // A cell removed on a day, and entered.
-pub fn enter_remove(mesh: &mut [u32], j: &mut [u32], day: u32, c: Cell) -> Verdict
+pub fn enter_remove(mesh: &mut [u32], j: &mut [u32], day: u32, c: Cell) -> Result<(), Refusal>
     ensures { Entered mesh.old j.old (dated day (Remove c.0)) result mesh.new j.new }
 {
     let none = [0u32; 1];
-    match about_entry(mesh, j, day) {
-        Opening::Refused(why) => Verdict::Refused(why),
-        Opening::Open(caps) => {
-            if is_full(j) {
-                return when_full(about_cell(mesh, c));
-            }
-            if let Verdict::Refused(why) = remove(mesh, c) {
-                return Verdict::Refused(why);
-            }
-            append(j, caps, day, REMOVE, c, 0, 0, part(&none, 0, 0));
-            Verdict::Accepted
-        }
+    let caps = about_entry(mesh, j, day)?;
+    if is_full(j) {
+        return when_full(about_cell(mesh, c));
     }
+    remove(mesh, c)?;
+    let removed = Entry {
+        day,
+        kind: Kind::Remove,
+        cell: c,
+        code: 0,
+        licence: 0,
+        marks: part(&none, 0, 0),
+    };
+    append(j, caps, removed);
+    Ok(())
 }

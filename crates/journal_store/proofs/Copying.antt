@@ -1,16 +1,18 @@
 -- Words copied one by one, and entries moved.
-use mathlib.Core.Path.{◌≡◌, sym, ap, ◌∙◌, subst}
+use mathlib.Core.Path.{◌≡◌, refl, sym, ap, ◌∙◌, subst}
 use mathlib.Core.Bool.{cond}
 use mathlib.Core.List.{List, ◌++◌}
 use mathlib.Core.Logic.{◌⊎◌, ⊎_elim}
-use Prim.Native.Nat.{ℕ, ◌+◌, ◌-◌, ◌*◌, ◌<◌, ◌≤◌}
+use Prim.Native.Nat.{ℕ, ◌+◌, ◌-◌, ◌*◌, ◌<◌, ◌≤◌, min}
 use native.Mathlib.Decide.{dec_lt}
 use native.Mathlib.Nat.{eq-or-lt_of_le}
 use native.Mathlib.Omega.{arith}
 use borrow.Author.Tests.{lt-ltb, le-ltb}
 use lib.Dec.{ltb}
-use lib.ListN.{length, get_or, set, get_or-append, get_or-eq_default}
-use lib.Seq.{get_or-append-add}
+use lib.ListN.{length, get_or, set, take, drop, replicate, length-replicate, get_or-append, get_or-eq_default}
+use lib.Seq.{get_or-append-add, length-take-le}
+use borrow.Rule.Slice.PartMut.{put_mid}
+use Rattle.std.proofs.lemmas.List.{places}
 use Rattle.words.specs.Words.{part_of, Only}
 use Rattle.words.proofs.Fits.{part_length, part_word}
 use Rattle.words.proofs.Frame.{read_same, read_other, only_none, only_then, only_put, only_wider}
@@ -59,6 +61,53 @@ copied_then a b w w' w'' at next n k all c d en size ea = record {
         let z : length a + (i - n) ≡ i = omega arith in
         subst (λ (x : ℕ). get_or w'' x 0 ≡ get_or b (i - n) 0) e (d.words (i - n) (omega arith) (omega (arith, c.only.size)))
         ∙ subst (λ (x : ℕ). get_or b (i - n) 0 ≡ get_or (a ++ b) x 0) z (sym (get_or-append-add a b (i - n) 0))
+
+-- a list written over a part, as long as the part
+pub copied_part : (w ys : List ℕ) (at k n : ℕ) → at + n ≤ length w → length ys ≡ n → k ≡ n → Copied ys at n w (put_mid at k w ys)
+copied_part w ys at k n fits size e = record {
+  only = record { size = grind (arith, places); same = λ x ne. outside x ne (dec_lt x at) (dec_lt x (at + n)) };
+  words = λ i less m. grind (arith, places);
+}
+  where
+    outside : (x : ℕ) → (From at n x → ⊥) → Dec (x < at) → Dec (x < at + n) → get_or (put_mid at k w ys) x 0 ≡ get_or w x 0
+    outside x ne (yes h) d = grind (arith, places)
+    outside x ne (no f) (yes l) = absurd (ne (omega arith, l))
+    outside x ne (no f) (no g) = grind (arith, places)
+
+-- the words of a list, and 0 behind them, up to the end of memory
+module _ (l w ys zs : List ℕ) (at n p c : ℕ) where
+  pub copied_filled : at ≤ length w → p ≡ min n (length w - at) → c ≡ min p (length l) → ys ≡ take c l
+      → zs ≡ replicate (length (take (at + p - (at + c)) (drop (at + c) (put_mid at (at + c - at) w ys)))) 0
+      → Copied l at n w (put_mid (at + c) (at + p - (at + c)) (put_mid at (at + c - at) w ys) zs)
+  copied_filled inside ep ec ey ez = record {
+    only = only_wider (λ k q. (q.0, omega arith)) both.only;
+    words = λ i less m. both.words i (omega arith) m ∙ like i (omega arith) (dec_lt i c);
+  }
+    where
+      sized : length ys ≡ c
+      sized = rw ey (length-take-le c l (omega arith))
+
+      front : Copied ys at c w (put_mid at (at + c - at) w ys)
+      front = copied_part w ys at (at + c - at) c (omega arith) sized (omega arith)
+
+      rest : length (take (at + p - (at + c)) (drop (at + c) (put_mid at (at + c - at) w ys))) ≡ p - c
+      rest = grind (arith, places, front.only.size)
+
+      zeros : zs ≡ replicate (p - c) 0
+      zeros = ez ∙ ap (λ (k : ℕ). replicate k 0) rest
+
+      padded : length zs ≡ p - c
+      padded = rw zeros (length-replicate (p - c) 0)
+
+      both : Copied (ys ++ zs) at p w (put_mid (at + c) (at + p - (at + c)) (put_mid at (at + c - at) w ys) zs)
+      both =
+          copied_then ys zs w (put_mid at (at + c - at) w ys) (put_mid (at + c) (at + p - (at + c)) (put_mid at (at + c - at) w ys) zs) at (at + c) c (p - c) p front
+          (copied_part (put_mid at (at + c - at) w ys) zs (at + c) (at + p - (at + c)) (p - c) (omega (arith, front.only.size)) padded (omega arith))
+          refl sized (omega arith)
+
+      like : (i : ℕ) → i < p → Dec (i < c) → get_or (ys ++ zs) i 0 ≡ get_or l i 0
+      like i less (yes h) = rw ey (grind (arith, places))
+      like i less (no f) = rw zeros (grind (arith, places, sized, get_or-eq_default l 0 {n = i}))
 
 -- the words moved so far
 pub record Moving (n k i : ℕ) (w w' : List ℕ) : Type 0 where

@@ -9,14 +9,20 @@ use native.Mathlib.Omega.{arith}
 use borrow.Author.Tests.{eq-eqb, le-leb}
 use lib.ListN.{length, get_or, take}
 use lib.Seq.{take-suc, get_or-append-add}
+use Rattle.std.specs.Option.{MatchOption, unwrap_or}
+use Rattle.std.specs.declared.option.Option.{Option}
+use Rattle.std.specs.declared.option.Option.TheVariants.{None, Some}
 use Rattle.words.proofs.Fits.{part_is}
 use Rattle.numbers.specs.declared.Caps.{Caps}
 use Rattle.shapes.proofs.Facts.{facts}
 use Rattle.map.specs.History.{Edit, Insert, Remove}
 use Rattle.journal_store.specs.Days as D
 use Rattle.journal_store.specs.Days.{Dated, Fits, AllFit}
-use Rattle.journal_store.specs.Entries.{head_words, entry_words, places_of, used_of, entry_at, insert_kind, edit_words, words_of, words_at}
-use Rattle.journal_store.specs.Journals.{entries_in, last_in, ever_in, fold_in, is_journal, day_in, edit_in, edits_in, Pictured}
+use Rattle.journal_store.specs.Entries.{head_words, entry_words, places_of, used_of, entry_at, insert_kind, remove_kind, edit_words, words_of, words_at}
+use Rattle.journal_store.specs.declared.Kind as K
+use Rattle.journal_store.specs.declared.Kind.{Kind}
+use Rattle.journal_store.specs.Told.{KindTold}
+use Rattle.journal_store.specs.Journals.{entries_in, last_in, ever_in, fold_in, is_journal, day_in, edit_in, edits_in, Counted, Pictured}
 
 -- one more entry is of the day or earlier
 pub counted_more : (j : List ℕ) (day k : ℕ) → ((i : ℕ) → i < k → day_in j i ≤ day) → (d : ℕ) → d ≡ day_in j k → d ≤ day → (i : ℕ) → i < k + 1 → day_in j i ≤ day
@@ -121,3 +127,26 @@ module _ (j : List ℕ) (caps : Caps) (es : List Dated) (last ever fold : ℕ) (
       let less : k < length es = omega arith in
       rw (edits_read fit k (omega arith), entry_read fit k d less, take-suc es k d less)
       (sym (map-append _ (take k es) (get_or es k d ∷ [])))
+
+-- the first entry that is later, or none of the first n
+pub counted_found : (j : List ℕ) (n day r : ℕ) (o : Option ℕ) → r ≡ unwrap_or o n
+    → MatchOption o ((k : ℕ) → 0 ≤ k → k < n → day_in j k ≤ day)
+    (λ i. (0 ≤ i) × (i < n) × (day < day_in j i) × ((k : ℕ) → 0 ≤ k → k < i → day_in j k ≤ day))
+    → Counted j n day r
+counted_found j n day r None e h = rw e (record { few = omega arith; early = λ i less. h i (omega arith) less; late = λ less. absurd (omega arith) })
+counted_found j n day r (Some k) e h = rw e (record { few = omega (arith, h.1); early = λ i less. h.3 i (omega arith) less; late = λ less. h.2 })
+
+-- the kind that a word tells
+pub told_insert : (n : ℕ) (k : Kind) → KindTold n (Some k) → k ≡ K.TheVariants.Insert → n ≡ insert_kind
+told_insert n K.TheVariants.Insert t e = t
+told_insert n K.TheVariants.Remove t e = absurd (let z : ◌≡◌ {A = ℕ} 0 1 = cc in omega arith)
+
+pub told_remove : (n : ℕ) (k : Kind) → KindTold n (Some k) → k ≡ K.TheVariants.Remove → n ≡ remove_kind
+told_remove n K.TheVariants.Insert t e = absurd (let z : ◌≡◌ {A = ℕ} 0 1 = cc in omega arith)
+told_remove n K.TheVariants.Remove t e = t
+
+-- no insert is told by the word of a removal, nor by one of none
+pub told_other : (n : ℕ) (o : Option Kind) → KindTold n o → (o ≡ Some K.TheVariants.Insert → ⊥) → n ≡ insert_kind → ⊥
+told_other n (Some K.TheVariants.Insert) t f e = f refl
+told_other n (Some K.TheVariants.Remove) t f e = let z : n ≡ 2 = t in omega arith
+told_other n None t f e = t.0 e

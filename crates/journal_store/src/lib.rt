@@ -1,15 +1,16 @@
 // The journal in lent words: a head of 16 words, then 16 words an edit.
 //
 // What is here: `is_journal` tells whether memory is a journal of given capacities; for each word of the head and of an entry that others ask
-// for one reader (`entries_of`, `day_of`, ..); `write_head` and `write_entry` write the words of a head and of an entry, `move_entries` moves
-// entries to the front, `copy_words` copies words. All are total. What is proved: each answer is an equation with specs/Journals.antt, and all
-// memory as it is left is told by specs/Writes.antt. What a caller should know: specs/Days.antt says what the days mean, over the list of
-// dated edits alone; no other crate knows a word's number.
+// for one reader (`entries_of`, `day_of`, ..); `write_head` and `write_entry` write the words of a `Head` and of an `Entry`, `move_entries`
+// moves entries to the front, `copy_words` copies words. All are total. What is proved: each answer is told by specs/Journals.antt and
+// specs/Told.antt, and all memory as it is left by specs/Writes.antt. What a caller should know: specs/Days.antt says what the days mean, over
+// the list of dated edits alone; no other crate knows a word's number, nor the number of a kind.
 #![tactic(auto)]
 
-ghost use Rattle.std.specs.Prelude.{◌≡◌, ◌+◌, get_or, length};
-ghost use Rattle.journal_store.specs.Entries.{entry_at, head_of, entry_of, places_of, used_of};
+ghost use Rattle.std.specs.Prelude.{◌≡◌, ◌+◌, get_or, leb, length, ltb};
+ghost use Rattle.journal_store.specs.Entries.{entry_at, places_of, used_of};
 ghost use Rattle.journal_store.specs.Journals.{entries_in, last_in, ever_in, fold_in, day_in, type_in, licence_in, is_journal, Counted};
+ghost use Rattle.journal_store.specs.Told.{kind_word, KindTold, fold_word, FoldTold, head_told, entry_told};
 ghost use Rattle.journal_store.specs.Writes.{Copied, Moved};
 
 use numbers::{Caps, Cell};
@@ -30,6 +31,38 @@ const MOST_ENTRIES: usize = 4294967295;
 const FIRST_WORDS: usize = 5;
 
 const MARK_WORDS: usize = 11;
+
+// The words of the two kinds.
+const INSERT: u32 = 1;
+
+const REMOVE: u32 = 2;
+
+// What an entry does.
+#[derive(Clone, Copy)]
+pub enum Kind {
+    Insert,
+    Remove,
+}
+
+// An edit with its day. One that removes has no type, no licence and no marks.
+#[derive(Clone, Copy)]
+pub struct Entry<'a> {
+    pub day: u32,
+    pub kind: Kind,
+    pub cell: Cell,
+    pub code: u32,
+    pub licence: u32,
+    pub marks: &'a [u32],
+}
+
+// What a head tells: how many entries, the day of the last edit, whether one was ever entered, the day of the last fold.
+#[derive(Clone, Copy)]
+pub struct Head {
+    pub entries: u32,
+    pub last: u32,
+    pub ever: bool,
+    pub fold: Option<u32>,
+}
 
 // How many entries fit in so many words.
 pub fn places_of(words: usize) -> u32
@@ -88,18 +121,33 @@ pub fn last_of(j: &[u32]) -> u32
     word(j, 5)
 }
 
-// 1 if an edit was ever entered.
-pub fn ever_of(j: &[u32]) -> u32
-    ensures { result ≡ ever_in j.now }
+// Whether an edit was ever entered.
+pub fn ever_of(j: &[u32]) -> bool
+    ensures { result ≡ ltb 0 (ever_in j.now) }
 {
-    word(j, 6)
+    0 < word(j, 6)
 }
 
-// The day of the last fold + 1; 0 for none.
-pub fn fold_of(j: &[u32]) -> u32
+// Whether the word that tells it is 0 or 1, as it is left here.
+pub fn ever_is_told(j: &[u32]) -> bool
+    ensures { result ≡ leb (ever_in j.now) 1 }
+{
+    word(j, 6) <= 1
+}
+
+// The first day that was not folded.
+pub fn first_of(j: &[u32]) -> u32
     ensures { result ≡ fold_in j.now }
 {
     word(j, 7)
+}
+
+// The day of the last fold; a head that is written with it has the same word.
+pub fn fold_of(j: &[u32]) -> Option<u32>
+    ensures told { FoldTold (fold_in j.now) result }
+    ensures written { fold_word result ≡ fold_in j.now }
+{
+    first_of(j).checked_sub(1)
 }
 
 // Where an entry begins.
@@ -116,13 +164,18 @@ pub fn day_of(j: &[u32], k: u32) -> u32
     word(j, entry_at(k))
 }
 
-// The kind of its edit, the cell, the type, the licence.
-pub fn kind_of(j: &[u32], k: u32) -> u32
-    ensures { result ≡ get_or j.now (entry_at k + 1) 0 }
+// The kind of its edit; none where its word tells none.
+pub fn kind_of(j: &[u32], k: u32) -> Option<Kind>
+    ensures { KindTold (get_or j.now (entry_at k + 1) 0) result }
 {
-    word(j, entry_at(k) + 1)
+    match word(j, entry_at(k) + 1) {
+        INSERT => Some(Kind::Insert),
+        REMOVE => Some(Kind::Remove),
+        _ => None,
+    }
 }
 
+// The cell, the type, the licence.
 pub fn cell_of(j: &[u32], k: u32) -> u32
     ensures { result ≡ get_or j.now (entry_at k + 2) 0 }
 {
@@ -152,52 +205,62 @@ pub fn marks_at(k: u32) -> usize
 pub fn copy_words(from: &[u32], to: &mut [u32], at: usize, n: usize)
     ensures { Copied from.now at n to.old to.new }
 {
-    let mut i: usize = 0;
-    let mut p = at;
-    while i < n {
-        if to.len() <= p {
-            return;
-        }
-        put(to, p, word(from, i));
-        i += 1;
-        p += 1;
+    if to.len() <= at {
+        return;
+    }
+    let places = n.min(to.len() - at);
+    let copied = places.min(from.len());
+    to[at..at + copied].copy_from_slice(&from[..copied]);
+    to[at + copied..at + places].fill(0);
+}
+
+// The word of a last fold.
+fn fold_word(fold: Option<u32>) -> u32
+    ensures { result ≡ fold_word fold }
+{
+    match fold {
+        Some(day) => day.saturating_add(1),
+        None => 0,
     }
 }
 
 // The head of a journal, all its 16 words.
-pub fn write_head(j: &mut [u32], caps: Caps, entries: u32, last: u32, ever: u32, fold: u32)
-    ensures { Copied (head_of caps entries last ever fold) 0 16 j.old j.new }
+pub fn write_head(j: &mut [u32], caps: Caps, head: Head)
+    ensures { Copied (head_told caps head) 0 16 j.old j.new }
 {
+    let fold = fold_word(head.fold);
     let words = [
         MAGIC,
         caps.marks,
         caps.cells,
         caps.edition,
-        entries,
-        last,
-        ever,
+        head.entries,
+        head.last,
+        head.ever as u32,
         fold,
     ];
     copy_words(&words, j, 0, HEAD_WORDS);
 }
 
-// An entry, all its 16 words.
-pub fn write_entry(
-    j: &mut [u32],
-    k: u32,
-    day: u32,
-    kind: u32,
-    c: Cell,
-    t: u32,
-    licence: u32,
-    marks: &[u32],
-)
-    ensures { Copied (entry_of day kind c.0 t licence marks.now) (entry_at k) 16 j.old j.new }
+// The word of a kind.
+fn kind_word(kind: Kind) -> u32
+    ensures { result ≡ kind_word kind }
 {
-    let words = [day, kind, c.0, t, licence];
+    match kind {
+        Kind::Insert => INSERT,
+        Kind::Remove => REMOVE,
+    }
+}
+
+// An entry, all its 16 words.
+pub fn write_entry(j: &mut [u32], k: u32, dated: Entry<'_>)
+    ensures { Copied (entry_told dated.entry) (entry_at k) 16 j.old j.new }
+{
+    let kind = kind_word(dated.kind);
+    let words = [dated.day, kind, dated.cell.0, dated.code, dated.licence];
     let at = entry_at(k);
     copy_words(&words, j, at, FIRST_WORDS);
-    copy_words(marks, j, at + FIRST_WORDS, MARK_WORDS);
+    copy_words(dated.marks, j, at + FIRST_WORDS, MARK_WORDS);
 }
 
 // Of n entries the first k are taken out, and the others moved to the front.
@@ -206,11 +269,9 @@ pub fn move_entries(j: &mut [u32], n: u32, k: u32)
 {
     let all = ENTRY_WORDS * (n as usize);
     let gone = ENTRY_WORDS * (k as usize);
-    let mut i: usize = 0;
-    while i < all {
+    for i in 0..all {
         let moved = word(part(j, 0, HEAD_WORDS + all), HEAD_WORDS + i + gone);
         put(j, HEAD_WORDS + i, moved);
-        i += 1;
     }
 }
 
@@ -218,12 +279,5 @@ pub fn move_entries(j: &mut [u32], n: u32, k: u32)
 pub fn count_up_to(j: &[u32], n: u32, day: u32) -> u32
     ensures { Counted j.now n day result }
 {
-    let mut k: u32 = 0;
-    while k < n {
-        if day < day_of(j, k) {
-            return k;
-        }
-        k += 1;
-    }
-    k
+    (0..n).find(|k| day < day_of(j, *k)).unwrap_or(n)
 }

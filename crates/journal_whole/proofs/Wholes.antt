@@ -10,7 +10,8 @@ use lib.ListN.{length, get_or}
 use Rattle.lists.proofs.Bools.{clash, and_left, and_right}
 use Rattle.numbers.specs.declared.Caps.{Caps}
 use Rattle.store.specs.Open.{opened}
-use Rattle.store.specs.declared.Opened.TheVariants.{Mesh, Nothing}
+use Rattle.map.specs.declared.Refusal.TheVariants.{NotMesh}
+use Rattle.std.specs.Prelude.{Ok, Err}
 use Rattle.map.specs.Cells.{Map}
 use Rattle.picture.specs.Picture.{Wf}
 use Rattle.checks.proofs.Opens.{nothing_opened, wf_mesh, wf_caps}
@@ -58,10 +59,10 @@ module _ (j start : List ℕ) where
   not_whole : ((m : Map) (past : List Dated) (fold : ℕ) → Filed m past fold j start → ⊥) → WholeJournal j start false
   not_whole f = record { yes = λ q. absurd (clash q refl); no = λ q. f }
 
-  pub no_mesh : Nothing ≡ opened start → WholeJournal j start false
+  pub no_mesh : (Err NotMesh) ≡ opened start → WholeJournal j start false
   no_mesh e = not_whole (λ m past fold f. clash (wf_mesh start (map_after m (before fold past)) f.starts) (nothing_opened start e))
 
-  module _ (caps : Caps) (opens : Mesh caps ≡ opened start) where
+  module _ (caps : Caps) (opens : Ok caps ≡ opened start) where
     pub no_journal : (is : Bool) → is ≡ is_journal j caps → is ≡ false → WholeJournal j start false
     no_journal is ei ef =
         not_whole (λ m past fold f.

@@ -1,14 +1,19 @@
 -- Words looked at one by one: all 0, or one that is not.
-use mathlib.Core.Path.{◌≡◌, refl, sym, ap, ◌∙◌, subst}
+use mathlib.Core.Path.{◌≡◌, refl, sym, ap, ◌∙◌}
 use mathlib.Core.Bool.{Bool, true, false}
-use mathlib.Core.List.{List}
-use mathlib.Core.Logic.{◌⊎◌, ⊎_elim}
-use Prim.Native.Nat.{ℕ, ◌+◌, ◌<◌, ◌≤◌}
+use mathlib.Core.List.{List, [], ◌∷◌}
+use mathlib.Core.Logic.{⊎_elim}
+use Prim.Native.Nat.{ℕ, zero, suc, ◌+◌, ◌-◌, ◌<◌, ◌≤◌, min}
 use native.Mathlib.Decide.{dec_lt}
 use native.Mathlib.Nat.{eq-or-lt_of_le}
 use native.Mathlib.Omega.{arith}
+use borrow.Author.Tests.{eq-eqb, eqb-true}
+use lib.Dec.{eqb}
 use lib.ListN.{length, get_or, get_or-eq_default}
-use Rattle.lists.proofs.Bools.{clash}
+use Rattle.std.specs.List.{list_all}
+use Rattle.lists.proofs.Bools.{clash, and_left, and_right}
+use Rattle.words.specs.Words.{part_of}
+use Rattle.words.proofs.Fits.{part_length, part_word}
 use Rattle.journal_whole.specs.Checks.{Zeros}
 
 module _ (j : List ℕ) (at i : ℕ) where
@@ -31,3 +36,32 @@ module _ (j : List ℕ) (at i : ℕ) where
 
     pub zeros_some : i < n → (p v : ℕ) → p ≡ at + i → v ≡ get_or j p 0 → (v ≡ 0 → ⊥) → Zeros j at n false
     zeros_some less p v ep ev f = record { yes = λ q. absurd (clash q refl); no = λ q all. f (ev ∙ (ap (λ (x : ℕ). get_or j x 0) ep ∙ all i less)) }
+
+-- a test of each word of a part that lies in memory
+all_zero : (l : List ℕ) → list_all (λ x. eqb x 0) l ≡ true → (k : ℕ) → k < length l → get_or l k 0 ≡ 0
+all_zero [] e k h = absurd (omega arith)
+all_zero (x ∷ xs) e zero h = eqb-true x 0 (and_left (eqb x 0) (list_all (λ x. eqb x 0) xs) e)
+all_zero (x ∷ xs) e (suc k) h = all_zero xs (and_right (eqb x 0) (list_all (λ x. eqb x 0) xs) e) k (omega arith)
+
+zero_all : (l : List ℕ) → ((k : ℕ) → k < length l → get_or l k 0 ≡ 0) → list_all (λ x. eqb x 0) l ≡ true
+zero_all [] f = refl
+zero_all (x ∷ xs) f = rw (eq-eqb x 0 (f 0 (omega arith))) (zero_all xs (λ k h. f (suc k) (omega arith)))
+
+module _ (j : List ℕ) (at n start within : ℕ) (from : start ≡ min at (length j)) (few : within ≡ min n (length j - start)) where
+  pub zeros_part : (l : List ℕ) → l ≡ part_of j start within → (r : Bool) → r ≡ list_all (λ x. eqb x 0) l → Zeros j at n r
+  zeros_part l part r e = record {
+    yes = λ q k less. go (sym e ∙ q) k less (dec_lt k within);
+    no = λ q all. clash (e ∙ zero_all l (λ k h. word k (omega (arith, size)) ∙ all k (omega (arith, size)))) q;
+  }
+    where
+      size : length l ≡ within
+      size = ap length part ∙ part_length j start within (omega arith)
+
+      word : (k : ℕ) → k < within → get_or l k 0 ≡ get_or j (at + k) 0
+      word k h =
+          let here : start + k ≡ at + k = omega arith in
+          ap (λ (x : List ℕ). get_or x k 0) part ∙ (part_word j start within k (omega arith) h ∙ ap (λ (x : ℕ). get_or j x 0) here)
+
+      go : list_all (λ x. eqb x 0) l ≡ true → (k : ℕ) → k < n → Dec (k < within) → get_or j (at + k) 0 ≡ 0
+      go q k less (yes h) = sym (word k h) ∙ all_zero l q k (omega (arith, size))
+      go q k less (no f) = get_or-eq_default j 0 {n = at + k} (omega arith)

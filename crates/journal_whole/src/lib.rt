@@ -6,23 +6,24 @@
 // part of it: an entry that is refused when it is replayed changes nothing.
 #![tactic(auto)]
 
-ghost use Rattle.std.specs.Prelude.{◌≡◌, ◌+◌};
+ghost use Rattle.std.specs.Prelude.{◌≡◌, ◌||◌, ◌+◌, eqb, leb};
+ghost use Rattle.journal_store.specs.Journals.{fold_in};
 ghost use Rattle.journal_whole.specs.Checks.{Zeros, EntryGood, EntriesGood, head_good, WholeJournal};
 
 use journal_store::{
-    HEAD_WORDS, day_of, entries_of, ever_of, fold_of, is_journal, kind_of, last_of, licence_of,
-    marks_at, type_of, used_of,
+    HEAD_WORDS, Kind, day_of, entries_of, ever_is_told, ever_of, first_of, fold_of, is_journal,
+    kind_of, last_of, licence_of, marks_at, type_of, used_of,
 };
 use shapes::mark_count;
-use store::{Opened, open};
+use store::open;
 use whole::whole;
-use words::word;
+use words::part;
 
 // The largest day number.
 const MOST_DAY: u32 = 65535;
 
-// Of the day of the last fold + 1: so many days at least lie between it and the last.
-const KEPT_BEHIND: usize = 365;
+// So many days at least lie between the last fold and the last day.
+const KEPT_DAYS: usize = 366;
 
 // The words of an entry from its marks on.
 const MARK_WORDS: usize = 11;
@@ -31,19 +32,10 @@ const MARK_WORDS: usize = 11;
 fn zeros(j: &[u32], at: usize, n: usize) -> bool
     ensures { Zeros j.now at n result }
 {
-    let mut i: usize = 0;
-    let mut p = at;
-    while i < n {
-        if j.len() <= p {
-            return true;
-        }
-        if word(j, p) != 0 {
-            return false;
-        }
-        i += 1;
-        p += 1;
-    }
-    true
+    // past the end is 0
+    let start = at.min(j.len());
+    let within = n.min(j.len() - start);
+    part(j, start, within).iter().all(|x| *x == 0)
 }
 
 // Whether the words of an entry are those of an edit.
@@ -51,31 +43,23 @@ fn entry_good(j: &[u32], k: u32) -> bool
     ensures { EntryGood j.now k result }
 {
     let t = type_of(j, k);
-    let kind = kind_of(j, k);
     let at = marks_at(k);
-    if kind == 1 {
-        let n = mark_count(t) as usize;
-        return zeros(j, at + n, MARK_WORDS - n);
+    match kind_of(j, k) {
+        Some(Kind::Insert) => {
+            let n = mark_count(t) as usize;
+            zeros(j, at + n, MARK_WORDS - n)
+        }
+        Some(Kind::Remove) => t == 0 && licence_of(j, k) == 0 && zeros(j, at, MARK_WORDS),
+        None => false,
     }
-    if kind != 2 {
-        return false;
-    }
-    if t != 0 {
-        return false;
-    }
-    if licence_of(j, k) != 0 {
-        return false;
-    }
-    zeros(j, at, MARK_WORDS)
 }
 
 // Whether the first n entries are edits of days in their order, none before the first day that was not folded.
 fn entries_good(j: &[u32], n: u32, first: u32) -> bool
     ensures { EntriesGood j.now n first result }
 {
-    let mut k: u32 = 0;
     let mut last = first;
-    while k < n {
+    for k in 0..n {
         let day = day_of(j, k);
         if day < last {
             return false;
@@ -84,9 +68,18 @@ fn entries_good(j: &[u32], n: u32, first: u32) -> bool
             return false;
         }
         last = day;
-        k += 1;
     }
     true
+}
+
+// Whether a year of days stays behind the last fold, if there is one.
+fn year_stays(j: &[u32], last: u32) -> bool
+    ensures { result ≡ (eqb (fold_in j.now) 0 || leb (fold_in j.now + 365) last) }
+{
+    match fold_of(j) {
+        Some(fold) => (fold as usize) + KEPT_DAYS <= last as usize,
+        None => true,
+    }
 }
 
 // Whether the head agrees with the entries.
@@ -96,35 +89,20 @@ fn head_good(j: &[u32]) -> bool
     let n = entries_of(j);
     let last = last_of(j);
     if n == 0 {
-        if last != 0 {
-            return false;
-        }
-        if ever_of(j) != 0 {
-            return false;
-        }
-        return fold_of(j) == 0;
+        return last == 0 && !ever_of(j) && first_of(j) == 0;
     }
-    if ever_of(j) != 1 {
-        return false;
-    }
-    if last != day_of(j, n - 1) {
-        return false;
-    }
-    if MOST_DAY < last {
-        return false;
-    }
-    let fold = fold_of(j);
-    if fold == 0 {
-        return true;
-    }
-    (fold as usize) + KEPT_BEHIND <= last as usize
+    ever_of(j)
+        && ever_is_told(j)
+        && last == day_of(j, n - 1)
+        && last <= MOST_DAY
+        && year_stays(j, last)
 }
 
 // Whether journal and starting map are filed, for some map and some dated edits.
 pub fn whole_journal(j: &[u32], start: &[u32]) -> bool
     ensures { WholeJournal j.now start.now result }
 {
-    let Opened::Mesh(caps) = open(start) else {
+    let Ok(caps) = open(start) else {
         return false;
     };
     if !is_journal(j, caps) {
@@ -137,7 +115,7 @@ pub fn whole_journal(j: &[u32], start: &[u32]) -> bool
         return false;
     }
     let n = entries_of(j);
-    if !entries_good(j, n, fold_of(j)) {
+    if !entries_good(j, n, first_of(j)) {
         return false;
     }
     let at = HEAD_WORDS + 16 * (n as usize);

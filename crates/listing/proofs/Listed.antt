@@ -16,17 +16,13 @@ use Rattle.lists.proofs.Bools.{clash}
 use Rattle.lists.proofs.Fill.{filled_take, length_list_of, list_of_take}
 use Rattle.words.specs.Words.{Only}
 use Rattle.numbers.specs.declared.Caps.{Caps}
-use Rattle.store.specs.declared.Opened.TheVariants.{Mesh}
+use Rattle.std.specs.Prelude.{Result, ⊤, Ok, Err}
 use Rattle.store.specs.Open.{opened}
 use Rattle.map.specs.Cells.{Map}
 use Rattle.map.specs.Answers.{Check, Answer, ◌when◌, answer, list_answer}
 use Rattle.map.specs.Says.{number_of, given, refused, value_says, verdict_says}
 use Rattle.map.specs.declared.Refusal.{Refusal}
 use Rattle.map.specs.declared.Refusal.TheVariants.{NotMesh, OutputShort}
-use Rattle.map.specs.declared.Value.{Value}
-use Rattle.map.specs.declared.Value.TheVariants as Val
-use Rattle.map.specs.declared.Verdict.{Verdict}
-use Rattle.map.specs.declared.Verdict.TheVariants.{Accepted}
 use Rattle.picture.specs.Picture.{Wf}
 use Rattle.checks.specs.Checked.{Checked}
 use Rattle.map.proofs.Refusals.{number_some}
@@ -41,8 +37,6 @@ use Rattle.star.specs.Listed.{Gives, AtMark}
 use Rattle.checks.proofs.Rows.{marks_of_lem}
 use Rattle.checks.proofs.Passed.{star_passed}
 use Rattle.checks.specs.Opening.{Opens}
-use Rattle.checks.specs.declared.Opening.{Opening}
-use Rattle.checks.specs.declared.Opening.TheVariants as Opening'
 use Rattle.checks.proofs.Opens.{mesh_opened, wf_caps}
 use Rattle.listing.specs.Listing.{listed, ListingIn, Listing, GivenIn, Given}
 use Rattle.numbers.specs.Sizes.{most_around}
@@ -53,10 +47,10 @@ unfolding listed refused
 listed_refused a why l o e = rw (← e, ne_eqb (number_of why) 0 (λ z. omega (arith, number_some why)))
 
 -- a refusal gives no count, and a count is no refusal
-not_given : (n : ℕ) (why : Refusal) → Val.Refused why ≡ Val.Is n → ⊥
+not_given : (n : ℕ) (why : Refusal) → Err why ≡ Ok n → ⊥
 not_given n why e = let z : ◌≡◌ {A = ℕ} 0 1 = cc in omega arith
 
-count_one : (n k : ℕ) → Val.Is n ≡ Val.Is k → n ≡ k
+count_one : (n k : ℕ) → ◌≡◌ {A = Result ℕ Refusal} (Ok n) (Ok k) → n ≡ k
 count_one n k e = cc
 
 -- a list in the first places of an output changes only those
@@ -70,11 +64,11 @@ first_only l o o' n a b e = record {
 
 module _ (places : ℕ) (w : List ℕ) (checks : Map → List Check) (list : Map → List ℕ) (o : List ℕ) where
   -- refused: no mesh, or by the checks
-  pub fitted_refused : (opening : Opening) → Opens w checks opening → (why : Refusal) → opening ≡ Opening'.Refused why
-      → ListingIn places w checks list o (Val.Refused why) o
+  pub fitted_refused : (opening : Result Caps Refusal) → Opens w checks opening → (why : Refusal) → opening ≡ Err why
+      → ListingIn places w checks list o (Err why) o
   unfolding list_answer value_says
   fitted_refused opening k why q = record {
-    refused = λ none. ap Val.Refused (k.no_mesh why q none);
+    refused = λ none. ap Err (k.no_mesh why q none);
     kept = λ other q. refl;
     first = λ n q. absurd (not_given n why q);
     answers = λ m wf.
@@ -82,8 +76,8 @@ module _ (places : ℕ) (w : List ℕ) (checks : Map → List Check) (list : Map
         (a, listed_refused (answer (checks m ++ ((12 when ltb places (length (list m))) ∷ [])) (length (list m) ∷ [])) why (list m) o a);
   }
 
-  module _ (caps : Caps) (opens : Mesh caps ≡ opened w) (verdict : Verdict) (checked : Checked w caps checks verdict) where
-    module _ (v : verdict ≡ Accepted) (numbered : (m : Map) → Numbered (checks m)) where
+  module _ (caps : Caps) (opens : Ok caps ≡ opened w) (verdict : Result ⊤ Refusal) (checked : Checked w caps checks verdict) where
+    module _ (v : verdict ≡ (Ok tt)) (numbered : (m : Map) → Numbered (checks m)) where
       behind : (m : Map) → Wf w m
           → answer ((12 when ltb places (length (list m))) ∷ []) (length (list m) ∷ []) ≡ list_answer (checks m) (list m) places
       unfolding list_answer verdict_says
@@ -93,7 +87,7 @@ module _ (places : ℕ) (w : List ℕ) (checks : Map → List Check) (list : Map
 
       -- the output is shorter than the list
       pub fitted_short : (n : ℕ) → places < n → ((m : Map) → m.caps ≡ caps → Wf w m → n ≡ length (list m))
-          → ListingIn places w checks list o (Val.Refused OutputShort) o
+          → ListingIn places w checks list o (Err OutputShort) o
       unfolding ◌when◌ answer value_says refused listed
       fitted_short n h counts = record {
         refused = λ none. absurd (clash (mesh_opened w caps opens).0 none);
@@ -108,7 +102,7 @@ module _ (places : ℕ) (w : List ℕ) (checks : Map → List Check) (list : Map
       -- the list stands in the first places of the output
       pub fitted_wrote : (n : ℕ) (o' : List ℕ) → n ≤ places → places ≤ length o → Only (λ i. i < n) o o'
           → ((m : Map) → m.caps ≡ caps → Wf w m → (n ≡ length (list m)) × (o' ≡ list m ++ drop (length (list m)) o))
-          → ListingIn places w checks list o (Val.Is n) o'
+          → ListingIn places w checks list o (Ok n) o'
       unfolding ◌when◌ answer value_says given listed
       fitted_wrote n o' h fit only written = record {
         refused = λ none. absurd (clash (mesh_opened w caps opens).0 none);
@@ -127,7 +121,7 @@ module _ (places : ℕ) (w : List ℕ) (checks : Map → List Check) (list : Map
         whole m e wf =
             ((lists m e wf).count, copied_list (list m) zeros from n (room m e wf) (lists m e wf))
 
-        pub fitted_given : (r : Value) (o' : List ℕ) → places ≤ length o → GivenIn places from n o r o' → ListingIn places w checks list o r o'
+        pub fitted_given : (r : Result ℕ Refusal) (o' : List ℕ) → places ≤ length o → GivenIn places from n o r o' → ListingIn places w checks list o r o'
         fitted_given r o' fit g = go (dec_lt places n)
           where
             gives : n ≤ places → (m : Map) → m.caps ≡ caps → Wf w m → (n ≡ length (list m)) × (o' ≡ list m ++ drop (length (list m)) o)
@@ -146,23 +140,23 @@ module _ (places : ℕ) (w : List ℕ) (checks : Map → List Check) (list : Map
 
 -- in as many places as the output has
 module _ (w : List ℕ) (checks : Map → List Check) (list : Map → List ℕ) (o : List ℕ) where
-  pub listing_refused : (opening : Opening) → Opens w checks opening → (why : Refusal) → opening ≡ Opening'.Refused why
-      → Listing w checks list o (Val.Refused why) o
+  pub listing_refused : (opening : Result Caps Refusal) → Opens w checks opening → (why : Refusal) → opening ≡ Err why
+      → Listing w checks list o (Err why) o
   listing_refused = fitted_refused (length o) w checks list o
 
-  module _ (caps : Caps) (opens : Mesh caps ≡ opened w) (verdict : Verdict) (checked : Checked w caps checks verdict) where
-    module _ (v : verdict ≡ Accepted) (numbered : (m : Map) → Numbered (checks m)) where
+  module _ (caps : Caps) (opens : Ok caps ≡ opened w) (verdict : Result ⊤ Refusal) (checked : Checked w caps checks verdict) where
+    module _ (v : verdict ≡ (Ok tt)) (numbered : (m : Map) → Numbered (checks m)) where
       pub listing_short : (n : ℕ) → length o < n → ((m : Map) → m.caps ≡ caps → Wf w m → n ≡ length (list m))
-          → Listing w checks list o (Val.Refused OutputShort) o
+          → Listing w checks list o (Err OutputShort) o
       listing_short = fitted_short (length o) w checks list o caps opens verdict checked v numbered
 
       pub listing_wrote : (n : ℕ) (o' : List ℕ) → n ≤ length o → Only (λ i. i < n) o o'
           → ((m : Map) → m.caps ≡ caps → Wf w m → (n ≡ length (list m)) × (o' ≡ list m ++ drop (length (list m)) o))
-          → Listing w checks list o (Val.Is n) o'
+          → Listing w checks list o (Ok n) o'
       listing_wrote n o' h = fitted_wrote (length o) w checks list o caps opens verdict checked v numbered n o' h (omega arith)
 
       pub listing_given : (zeros from : List ℕ) (n : ℕ) → ((m : Map) → m.caps ≡ caps → Wf w m → n ≤ length zeros)
-          → ((m : Map) → m.caps ≡ caps → Wf w m → Copied (list m) zeros n from) → (r : Value) (o' : List ℕ) → Given from n o r o' → Listing w checks list o r o'
+          → ((m : Map) → m.caps ≡ caps → Wf w m → Copied (list m) zeros n from) → (r : Result ℕ Refusal) (o' : List ℕ) → Given from n o r o' → Listing w checks list o r o'
       listing_given zeros from n room lists r o' =
           fitted_given (length o) w checks list o caps opens verdict checked v numbered zeros from n room lists r o' (omega arith)
 
@@ -172,7 +166,7 @@ pub gives_list : (w : List ℕ) (caps : Caps) (most : ℕ) (ok : State → Type 
 gives_list w caps most ok list o o' r g m e wf k = rw (wf_map w caps m e wf) at (g.gives (state_of m) (wf_pic w caps m e wf) k)
 
 -- the star of a mark that passed its checks
-pub star_lists : (w : List ℕ) (caps : Caps) (d v : ℕ) (verdict : Verdict) → Checked w caps (λ m. star_checks m d v) verdict → verdict ≡ Accepted
+pub star_lists : (w : List ℕ) (caps : Caps) (d v : ℕ) (verdict : Result ⊤ Refusal) → Checked w caps (λ m. star_checks m d v) verdict → verdict ≡ (Ok tt)
     → (zeros from : List ℕ) (n : ℕ) → Gives w caps most_around (AtMark caps v) (λ m. star m d v) zeros n from
     → (m : Map) → m.caps ≡ caps → Wf w m → Copied (star m d v) zeros n from
 star_lists w caps d v verdict k a zeros from n g m e wf =
@@ -180,7 +174,7 @@ star_lists w caps d v verdict k a zeros from n g m e wf =
     (record { ready = (wf_settled w caps m e wf).ready; mark = omega (arith, (star_passed w caps verdict a m e wf d v k).2, marks_of_lem caps m e) })
 
 -- the anchors of a mark that passed its checks
-pub anchors_list : (w : List ℕ) (caps : Caps) (d v : ℕ) (verdict : Verdict) → Checked w caps (λ m. star_checks m d v) verdict → verdict ≡ Accepted
+pub anchors_list : (w : List ℕ) (caps : Caps) (d v : ℕ) (verdict : Result ⊤ Refusal) → Checked w caps (λ m. star_checks m d v) verdict → verdict ≡ (Ok tt)
     → (rows : List (List (List ℕ))) → rows ≡ table
     → (zeros from : List ℕ) (n : ℕ) → Gives w caps most_around (Around caps rows v) (λ m. anchors m d v) zeros n from
     → (m : Map) → m.caps ≡ caps → Wf w m → Copied (anchors m d v) zeros n from

@@ -15,3 +15,4 @@ pub mod Cyclic
 pub mod Every
 pub mod Through
 pub mod Mapped
+pub mod Tested

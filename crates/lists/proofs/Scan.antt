@@ -2,28 +2,19 @@
 use mathlib.Core.Path.{◌≡◌, sym, ap, ◌∙◌}
 use mathlib.Core.Bool.{Bool, true, false}
 use mathlib.Core.List.{List, ◌∷◌}
-use Prim.Native.Nat.{ℕ, ◌+◌, ◌<◌, ◌≤◌}
+use Prim.Native.Nat.{ℕ, ◌+◌, ◌-◌, ◌<◌, ◌≤◌}
 use native.Mathlib.Numerals.{add-one}
-use borrow.Author.Tests.{eq-eqb, ne_eqb}
-use lib.ListN.{length, get_or, drop, drop_of_length-le}
-use lib.Seq.{drop-cons}
+use lib.ListN.{length, get_or, take, drop, drop_of_length-le, length-drop}
+use lib.Seq.{drop-cons, take_all}
+use native.Mathlib.Omega.{arith}
 use Rattle.lists.specs.Lists.{any, all, has, repeats}
 
 rest : (l : List ℕ) (i : ℕ) → i < length l → drop i l ≡ get_or l i 0 ∷ drop (i + 1) l
 rest l i h = rw (add-one i) (drop-cons l i 0 h)
 
-module _ (v : ℕ) (l : List ℕ) (b : Bool) (i : ℕ) (same : b ≡ has v (drop i l)) where
-  pub has_stop : get_or l i 0 ≡ v → i < length l → true ≡ b
-  unfolding has
-  has_stop e h = sym (same ∙ (ap (has v) (rest l i h) ∙ rw (eq-eqb (get_or l i 0) v e)))
-
-  pub has_go : (get_or l i 0 ≡ v → ⊥) → i < length l → b ≡ has v (drop (i + 1) l)
-  unfolding has
-  has_go f h = same ∙ (ap (has v) (rest l i h) ∙ rw (ne_eqb (get_or l i 0) v f))
-
-  pub has_end : length l ≤ i → false ≡ b
-  unfolding has
-  has_end h = sym (same ∙ ap (has v) (drop_of_length-le l {i = i} h))
+-- a slice from a place on holds what is behind it
+pub has_behind : (v : ℕ) (l : List ℕ) (i : ℕ) (found b : Bool) → found ≡ has v (take (length l - i) (drop i l)) → found ≡ b → has v (drop i l) ≡ b
+has_behind v l i found b e q = ap (has v) (sym (take_all (length l - i) (drop i l) (omega (arith, length-drop i l)))) ∙ (sym e ∙ q)
 
 module _ (p : ℕ → Bool) (l : List ℕ) (i : ℕ) (same : all p l ≡ all p (drop i l)) where
   pub all_stop : p (get_or l i 0) ≡ false → i < length l → false ≡ all p l

@@ -8,62 +8,35 @@
 ghost use Rattle.std.specs.Prelude.{◌≡◌, leb, drop};
 ghost use Rattle.lists.specs.Lists.{has, any, all, same_set, repeats};
 
-// v is in the list from a place on.
-fn has_from(l: &[u32], at: usize, v: u32) -> bool
-    ensures { result ≡ has v (drop at l.now) }
-{
-    let mut i = at;
-    while i < l.len() {
-        if l[i] == v {
-            return true;
-        }
-        i += 1;
-    }
-    false
-}
-
 // v is in the list.
 pub fn has(l: &[u32], v: u32) -> bool
     ensures { result ≡ has v l.now }
 {
-    has_from(l, 0, v)
+    l.contains(&v)
 }
 
 // All of a are in b.
 pub fn subset(a: &[u32], b: &[u32]) -> bool
     ensures { result ≡ all (λ x. has x b.now) a.now }
 {
-    let mut i = 0;
-    while i < a.len() {
-        if !has_from(b, 0, a[i]) {
-            return false;
-        }
-        i += 1;
-    }
-    true
+    a.iter().all(|x| has(b, *x))
 }
 
 // Equal sets, whatever the order.
 pub fn same_set(a: &[u32], b: &[u32]) -> bool
     ensures { result ≡ same_set a.now b.now }
 {
-    if !subset(a, b) {
-        return false;
-    }
-    subset(b, a)
+    subset(a, b) && subset(b, a)
 }
 
 // A number occurs twice.
 pub fn repeats(l: &[u32]) -> bool
     ensures { result ≡ repeats l.now }
 {
-    let mut i = 0;
-    while i < l.len() {
-        let next = i + 1;
-        if has_from(l, next, l[i]) {
+    for (i, x) in l.iter().enumerate() {
+        if has(&l[i + 1..], *x) {
             return true;
         }
-        i = next;
     }
     false
 }
@@ -72,12 +45,5 @@ pub fn repeats(l: &[u32]) -> bool
 pub fn reaches(l: &[u32], n: u32) -> bool
     ensures { result ≡ any (leb n) l.now }
 {
-    let mut i = 0;
-    while i < l.len() {
-        if n <= l[i] {
-            return true;
-        }
-        i += 1;
-    }
-    false
+    l.iter().any(|x| n <= *x)
 }

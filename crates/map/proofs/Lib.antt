@@ -4,3 +4,4 @@ pub mod Refusals
 pub mod Ways
 pub mod Says
 pub mod Mornings
+pub mod Handed

@@ -1,25 +1,12 @@
--- The outline's number and values of each case of the enums.
-use Rattle.std.specs.Prelude.{List, [], ◌∷◌, ℕ}
+-- The outline's number and values of each answer.
+use Rattle.std.specs.Prelude.{List, [], ◌∷◌, ℕ, Result, ⊤, Option, Ok, Err, Some, None, true, false, Bool}
 use Rattle.map.specs.declared.Refusal.{Refusal}
 use Rattle.map.specs.declared.Refusal.TheVariants.{CapacityAbove, MemoryShort, CellOutside, CellLive, CellNotLive, TypeUnknown, CountWrong, MarkOutside, MarkTwice, CellSame, MarkFull, OutputShort, FacetOutside, NotMesh, BadFrame, PositionsShort, FaceFull, DayBefore, DayFolded, FoldNotAllowed, JournalFull}
-use Rattle.map.specs.declared.Verdict.{Verdict}
-use Rattle.map.specs.declared.Verdict.TheVariants as Verdict'
-use Rattle.map.specs.declared.Value.{Value}
-use Rattle.map.specs.declared.Value.TheVariants as Value'
-use Rattle.map.specs.declared.Pair.{Pair}
-use Rattle.map.specs.declared.Pair.TheVariants as Pair'
-use Rattle.map.specs.declared.CellAt.{CellAt}
-use Rattle.map.specs.declared.CellAt.TheVariants as CellAt'
-use Rattle.map.specs.declared.HalfAt.{HalfAt}
-use Rattle.map.specs.declared.HalfAt.TheVariants as HalfAt'
-use Rattle.map.specs.declared.Found.{Found}
-use Rattle.map.specs.declared.Found.TheVariants as Found'
-use Rattle.map.specs.declared.Truth.{Truth}
-use Rattle.map.specs.declared.Truth.TheVariants as Truth'
-use Rattle.map.specs.declared.Built.{Built}
-use Rattle.map.specs.declared.Built.TheVariants as Built'
-use Rattle.map.specs.declared.Edits.{Edits}
-use Rattle.map.specs.declared.Edits.TheVariants as Edits'
+use Rattle.map.specs.declared.Way.{Way}
+use Rattle.numbers.specs.declared.Half.{Half}
+use Rattle.numbers.specs.declared.Cell.{Cell}
+use Rattle.map.specs.declared.Stopped.{Stopped}
+use Rattle.map.specs.declared.Unbuilt.{Unbuilt}
 use Rattle.map.specs.Answers.{Answer}
 use Rattle.map.specs.Ways.{way_number}
 
@@ -52,43 +39,50 @@ given values = record { refusal = 0; values = values }
 unfoldable pub refused : Refusal → Answer
 refused r = record { refusal = number_of r; values = [] }
 
-unfoldable pub verdict_says : Verdict → Answer
-verdict_says Verdict'.Accepted = given []
-verdict_says (Verdict'.Refused r) = refused r
+unfoldable pub verdict_says : Result ⊤ Refusal → Answer
+verdict_says (Ok tt) = given []
+verdict_says (Err r) = refused r
 
-unfoldable pub value_says : Value → Answer
-value_says (Value'.Is n) = given (n ∷ [])
-value_says (Value'.Refused r) = refused r
+unfoldable pub value_says : Result ℕ Refusal → Answer
+value_says (Ok n) = given (n ∷ [])
+value_says (Err r) = refused r
 
-unfoldable pub pair_says : Pair → Answer
-pair_says (Pair'.Are n k) = given (n ∷ k ∷ [])
-pair_says (Pair'.Refused r) = refused r
+unfoldable pub pair_says : Result (ℕ × ℕ) Refusal → Answer
+pair_says (Ok (n, k)) = given (n ∷ k ∷ [])
+pair_says (Err r) = refused r
 
-unfoldable pub cell_says : CellAt → Answer
-cell_says (CellAt'.At c) = given (c.0 ∷ [])
-cell_says CellAt'.Nothing = given []
-cell_says (CellAt'.Refused r) = refused r
+unfoldable pub cell_says : Result (Option Cell) Refusal → Answer
+cell_says (Ok (Some c)) = given (c.0 ∷ [])
+cell_says (Ok None) = given []
+cell_says (Err r) = refused r
 
-unfoldable pub half_says : HalfAt → Answer
-half_says (HalfAt'.At h way) = given (h.0 ∷ way_number way ∷ [])
-half_says (HalfAt'.Refused r) = refused r
+unfoldable pub half_says : Result (Half × Way) Refusal → Answer
+half_says (Ok (h, way)) = given (h.0 ∷ way_number way ∷ [])
+half_says (Err r) = refused r
 
-unfoldable pub found_says : Found → Answer
-found_says (Found'.At h) = given (h.0 ∷ [])
-found_says Found'.Nothing = given []
-found_says (Found'.Refused r) = refused r
+unfoldable pub found_says : Result (Option Half) Refusal → Answer
+found_says (Ok (Some h)) = given (h.0 ∷ [])
+found_says (Ok None) = given []
+found_says (Err r) = refused r
 
-unfoldable pub truth_says : Truth → Answer
-truth_says Truth'.Yes = given (1 ∷ [])
-truth_says Truth'.No = given (0 ∷ [])
-truth_says (Truth'.Refused r) = refused r
+unfoldable pub truth_says : Result Bool Refusal → Answer
+truth_says (Ok true) = given (1 ∷ [])
+truth_says (Ok false) = given (0 ∷ [])
+truth_says (Err r) = refused r
+
+-- a build refused with the place of its record; a list of edits stopped after so many
+abbrev pub RefusedAt : Refusal → ℕ → Result ⊤ Unbuilt
+RefusedAt r place = Err (record { why = r; place = place })
+
+abbrev pub StoppedAt : ℕ → Refusal → Result ℕ Stopped
+StoppedAt n r = Err (record { made = n; why = r })
 
 -- a refused build gives the record's place too
-unfoldable pub built_says : Built → Answer
-built_says Built'.Accepted = given []
-built_says (Built'.Refused r place) = record { refusal = number_of r; values = place ∷ [] }
+unfoldable pub built_says : Result ⊤ Unbuilt → Answer
+built_says (Ok tt) = given []
+built_says (Err e) = record { refusal = number_of e.why; values = e.place ∷ [] }
 
 -- a list of edits gives the number made, stopped or not
-unfoldable pub edits_says : Edits → Answer
-edits_says (Edits'.Made n) = given (n ∷ [])
-edits_says (Edits'.Stopped n r) = record { refusal = number_of r; values = n ∷ [] }
+unfoldable pub edits_says : Result ℕ Stopped → Answer
+edits_says (Ok n) = given (n ∷ [])
+edits_says (Err e) = record { refusal = number_of e.why; values = e.made ∷ [] }

@@ -2,16 +2,14 @@
 //
 // What is here: in specs/ the definitions, over the live cells alone (Cells, Siblings, Groups, Stars), the
 // answers with their refusals in the listed order (Answers, Free), the history (History), a morning's edits (Morning) and the twelve cases (Cases); in
-// src/ the refusals, the ways of a sibling and the answers as enums, each case with the outline's number in specs/Says.antt
-// and specs/Ways.antt. What is proved: `number_of` and `way_number` give that number; the twelve cases hold
-// (proofs/Cases.antt); an answer of the outline is that of one enum value alone (proofs/Says.antt). What a caller should know: the laws of these definitions are in crate `laws`.
+// src/ the refusals and the ways of a sibling, each with the outline's number in specs/Says.antt and specs/Ways.antt: an answer is a `Result`,
+// and its error a refusal, or one with its place. What is proved: `number_of` and `way_number` give that number; the twelve cases hold
+// (proofs/Cases.antt); an answer of the outline is that of one `Result` alone (proofs/Says.antt). What a caller should know: the laws of these definitions are in crate `laws`.
 #![tactic(auto)]
 
 ghost use Rattle.std.specs.Prelude.{◌≡◌};
 ghost use Rattle.map.specs.Says.{number_of};
 ghost use Rattle.map.specs.Ways.{way_number};
-
-use numbers::{Cell, Half};
 
 // Why a call is refused: a row of the outline's table each, in its order.
 #[derive(Clone, Copy)]
@@ -89,68 +87,16 @@ pub fn way_number(way: Way) -> u32
     }
 }
 
-// The answer of a call that gives nothing back: format, insert, remove.
+// Why a build is refused, and the place of its record, from 0.
 #[derive(Clone, Copy)]
-pub enum Verdict {
-    Accepted,
-    Refused(Refusal),
+pub struct Unbuilt {
+    pub why: Refusal,
+    pub place: u32,
 }
 
-// One number: a type, a count, the length of a list.
+// Why a list of edits stopped, and how many were made before.
 #[derive(Clone, Copy)]
-pub enum Value {
-    Is(u32),
-    Refused(Refusal),
-}
-
-// Two numbers: the capacities.
-#[derive(Clone, Copy)]
-pub enum Pair {
-    Are(u32, u32),
-    Refused(Refusal),
-}
-
-// A cell or none: the free cell.
-#[derive(Clone, Copy)]
-pub enum CellAt {
-    At(Cell),
-    Nothing,
-    Refused(Refusal),
-}
-
-// A half-facet and the way that it runs: the sibling.
-#[derive(Clone, Copy)]
-pub enum HalfAt {
-    At(Half, Way),
-    Refused(Refusal),
-}
-
-// A half-facet or none: the first anchor, the lookup.
-#[derive(Clone, Copy)]
-pub enum Found {
-    At(Half),
-    Nothing,
-    Refused(Refusal),
-}
-
-// Border or not.
-#[derive(Clone, Copy)]
-pub enum Truth {
-    Yes,
-    No,
-    Refused(Refusal),
-}
-
-// A build: refused with the place of the record, from 0.
-#[derive(Clone, Copy)]
-pub enum Built {
-    Accepted,
-    Refused(Refusal, u32),
-}
-
-// A list of edits: how many were made, and why it stopped if it did.
-#[derive(Clone, Copy)]
-pub enum Edits {
-    Made(usize),
-    Stopped(usize, Refusal),
+pub struct Stopped {
+    pub made: usize,
+    pub why: Refusal,
 }

@@ -18,7 +18,7 @@ use Rattle.lists.proofs.Members.{at_has, has_append}
 use Rattle.lists.proofs.Select.{select_in, select_out}
 use Rattle.words.specs.Words.{Only}
 use Rattle.numbers.specs.declared.Caps.{Caps}
-use Rattle.store.specs.declared.Opened.TheVariants.{Mesh}
+use Rattle.std.specs.Prelude.{Result, Ok, Err}
 use Rattle.store.specs.Open.{opened}
 use Rattle.map.specs.Cells.{Map, live, dimension_at, holds}
 use Rattle.map.specs.Stars.{star}
@@ -26,16 +26,12 @@ use Rattle.map.specs.Sound.{Sound}
 use Rattle.map.specs.Answers.{star_checks}
 use Rattle.map.specs.declared.Refusal.{Refusal}
 use Rattle.map.specs.declared.Refusal.TheVariants.{OutputShort}
-use Rattle.map.specs.declared.Value.TheVariants.{Is, Refused}
-use Rattle.map.specs.declared.Verdict.TheVariants.{Accepted}
 use Rattle.laws.proofs.Anchors.{star_has, has_star}
 use Rattle.laws.proofs.Edits.{typed_coded}
 use Rattle.picture.specs.Picture.{Wf}
 use Rattle.edit.proofs.Aside.{dimension_most}
 use Rattle.checks.specs.Checked.{Checked}
 use Rattle.checks.specs.Opening.{Opens}
-use Rattle.checks.specs.declared.Opening.{Opening}
-use Rattle.checks.specs.declared.Opening.TheVariants as Opening'
 use Rattle.checks.proofs.Passed.{star_numbered, star_passed}
 use Rattle.listing.specs.Listing.{Listing}
 use Rattle.listing.proofs.Listed.{first_only, listing_refused, listing_short, listing_wrote}
@@ -127,21 +123,21 @@ module _ (m : Map) (o : Sound m) (v : ℕ) where
   around_same = order_same (gathered m v) (map (licence_in m) (cells_around m v)) gathered_around around_gathered
 
 -- listed on a mesh
-module _ (w : List ℕ) (v : ℕ) (o : List ℕ) (opening : Opening) (is : Opens w (λ m. star_checks m 1 v) opening) where
-  pub around_refused : (why : Refusal) → opening ≡ Opening'.Refused why
-      → Listing w (λ m. star_checks m 1 v) (λ m. licences_around m v) o (Refused why) o
+module _ (w : List ℕ) (v : ℕ) (o : List ℕ) (opening : Result Caps Refusal) (is : Opens w (λ m. star_checks m 1 v) opening) where
+  pub around_refused : (why : Refusal) → opening ≡ Err why
+      → Listing w (λ m. star_checks m 1 v) (λ m. licences_around m v) o (Err why) o
   around_refused why q = listing_refused w (λ m. star_checks m 1 v) (λ m. licences_around m v) o opening is why q
 
-  module _ (caps : Caps) (q : opening ≡ Opening'.Open caps) (zeros all : List ℕ) (n : ℕ) (long : length zeros ≡ 384) (g : Gathered w v zeros n all) where
-    mesh : Mesh caps ≡ opened w
+  module _ (caps : Caps) (q : opening ≡ Ok caps) (zeros all : List ℕ) (n : ℕ) (long : length zeros ≡ 384) (g : Gathered w v zeros n all) where
+    mesh : Ok caps ≡ opened w
     mesh = (is.opens caps q).0
 
-    passed : Checked w caps (λ m. star_checks m 1 v) Accepted
+    passed : Checked w caps (λ m. star_checks m 1 v) (Ok tt)
     passed = (is.opens caps q).1
 
     numbers : (m : Map) → m.caps ≡ caps → Wf w m → ascending (list_of n (λ i. get_or all i 0)) ≡ licences_around m v
     numbers m e wf =
-        ap ascending (copied_list (gathered m v) zeros all n (omega (arith, g.few)) (g.list m wf (star_passed w caps Accepted refl m e wf 1 v passed).2))
+        ap ascending (copied_list (gathered m v) zeros all n (omega (arith, g.few)) (g.list m wf (star_passed w caps (Ok tt) refl m e wf 1 v passed).2))
         ∙ around_same m wf.sound v
 
     pub around_fits : (blank apart : List ℕ) (total : ℕ) → Copied (ascending (list_of n (λ i. get_or all i 0))) blank total apart → total ≤ n
@@ -149,15 +145,15 @@ module _ (w : List ℕ) (v : ℕ) (o : List ℕ) (opening : Opening) (is : Opens
         omega (arith, c.count, order_few (list_of n (λ i. get_or all i 0)), length_list_of n (λ i. get_or all i 0))
 
     module _ (blank apart : List ℕ) (total : ℕ) (c : Copied (ascending (list_of n (λ i. get_or all i 0))) blank total apart) where
-      pub around_short : length o < total → Listing w (λ m. star_checks m 1 v) (λ m. licences_around m v) o (Refused OutputShort) o
+      pub around_short : length o < total → Listing w (λ m. star_checks m 1 v) (λ m. licences_around m v) o (Err OutputShort) o
       around_short h =
-          listing_short w (λ m. star_checks m 1 v) (λ m. licences_around m v) o caps mesh Accepted passed refl (λ m. star_numbered m 1 v) total h
+          listing_short w (λ m. star_checks m 1 v) (λ m. licences_around m v) o caps mesh (Ok tt) passed refl (λ m. star_numbered m 1 v) total h
           (λ m e wf. c.count ∙ ap length (numbers m e wf))
 
       pub around_wrote : total ≤ length o → (again : ℕ) (o' : List ℕ) → Copied (ascending (list_of n (λ i. get_or all i 0))) o again o'
-          → Listing w (λ m. star_checks m 1 v) (λ m. licences_around m v) o (Is total) o'
+          → Listing w (λ m. star_checks m 1 v) (λ m. licences_around m v) o (Ok total) o'
       around_wrote h again o' z =
-          listing_wrote w (λ m. star_checks m 1 v) (λ m. licences_around m v) o caps mesh Accepted passed refl (λ m. star_numbered m 1 v) total o' h
+          listing_wrote w (λ m. star_checks m 1 v) (λ m. licences_around m v) o caps mesh (Ok tt) passed refl (λ m. star_numbered m 1 v) total o' h
           (first_only (ascending (list_of n (λ i. get_or all i 0))) o o' total (omega (arith, c.count)) h (z.filled.wrote (omega (arith, c.count))))
           (λ m e wf. (
             c.count ∙ ap length (numbers m e wf),

@@ -15,8 +15,8 @@ use Rattle.map.specs.Cells.{Map, live, holds}
 use Rattle.map.specs.Sound.{Sound}
 use Rattle.map.specs.Answers.{Answer, Check, ◌when◌, answer, list_answer}
 use Rattle.map.specs.Says.{given, refused, value_says}
-use Rattle.map.specs.declared.Value.{Value}
-use Rattle.map.specs.declared.Value.TheVariants.{Is}
+use Rattle.map.specs.declared.Refusal.{Refusal}
+use Rattle.std.specs.Prelude.{Result, Ok}
 use Rattle.journal_store.specs.Days.{Dated, map_on}
 use Rattle.listing.specs.Listing.{listed}
 use Rattle.year.specs.Since.{Since}
@@ -69,10 +69,10 @@ first_passed (c ∷ cs) more values n e = go c.fails (λ q. first_passed cs more
     go true ih e = absurd (omega (arith, ap (λ (a : Answer). length a.values) e))
     go false ih e = ih e
 
-module _ (m : Map) (past : List Dated) (fold day v : ℕ) (second second' out out' : List ℕ) (r : Value)
+module _ (m : Map) (past : List Dated) (fold day v : ℕ) (second second' out out' : List ℕ) (r : Result ℕ Refusal)
     (says : value_says r ≡ licences_answer m past fold day v (length second) (length out))
     (leaves : out' ≡ listed (licences_answer m past fold day v (length second) (length out)) (licences_on m past day v) out)
-    (leaves-day : Second m past fold day v second second') (n : ℕ) (e : r ≡ Is n) where
+    (leaves-day : Second m past fold day v second second') (n : ℕ) (e : r ≡ Ok n) where
   listing : given (n ∷ []) ≡ licences_answer m past fold day v (length second) (length out)
   unfolding value_says
   listing = ap value_says (sym e) ∙ says
@@ -99,10 +99,10 @@ module _ (m : Map) (past : List Dated) (fold day v : ℕ) (second second' out ou
 -- a complaint for a mark and a day, on journal, starting map and mesh that came about by the calls since `begin`, from any map `m` and by any history of
 -- entries and folds: the refusals in their order, and where a count is answered the list has just that many numbers, the licences of the cells that
 -- are live on that day and hold the mark, ascending, each once, 0 left out: none missing, none extra
-pub complaint : {m : Map} {past : List Dated} {fold : ℕ} {mesh j start second second' out out' : List ℕ} {day v : ℕ} {r : Value} → Since m past fold mesh j start
+pub complaint : {m : Map} {past : List Dated} {fold : ℕ} {mesh j start second second' out out' : List ℕ} {day v : ℕ} {r : Result ℕ Refusal} → Since m past fold mesh j start
     → Named j start day v second out r second' out'
     → (value_says r ≡ licences_answer m past fold day v (length second) (length out))
-    × ((n : ℕ) → r ≡ Is n → (n ≡ length (licences_on m past day v)) × (out' ≡ licences_on m past day v ++ drop n out) × Licences (map_on m past day) v (licences_on m past day v))
+    × ((n : ℕ) → r ≡ Ok n → (n ≡ length (licences_on m past day v)) × (out' ≡ licences_on m past day v ++ drop n out) × Licences (map_on m past day) v (licences_on m past day v))
 complaint {m} {past} {fold} {second = second} {second'} {out} {out'} {day} {v} {r} on did =
     let a = did.answers m past fold (since_kept on).filed in
     (a.0, named m past fold day v second second' out out' r a.0 a.1 a.2)

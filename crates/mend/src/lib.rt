@@ -19,7 +19,7 @@ use numbers::{Caps, Mark};
 use picture::put_anchor;
 use shapes::{FacetTable, MOST_CORNERS, dimension, facet_count};
 use sibling::mend;
-use words::{part, word};
+use words::part;
 
 // One facet's set mended.
 fn mend_facet(w: &mut [u32], caps: Caps, rows: &FacetTable, t: u32, f: u32, marks: &[u32])
@@ -35,10 +35,8 @@ pub fn mend_all(w: &mut [u32], caps: Caps, rows: &FacetTable, t: u32, marks: &[u
     ensures { Mends caps rows.now t marks.now w.old w.new [] }
 {
     let n = facet_count(t);
-    let mut f: u32 = 0;
-    while f < n {
+    for f in 0..n {
         mend_facet(w, caps, rows, t, f, marks);
-        f += 1;
     }
 }
 
@@ -54,10 +52,8 @@ fn anchor_mark(w: &mut [u32], caps: Caps, rows: &FacetTable, d: u32, v: Mark)
 pub fn anchor_all(w: &mut [u32], caps: Caps, rows: &FacetTable, d: u32, marks: &[u32])
     ensures { Anchors caps rows.now d marks.now w.old w.new [] }
 {
-    let mut i: usize = 0;
-    while i < marks.len() {
-        anchor_mark(w, caps, rows, d, Mark(word(marks, i)));
-        i += 1;
+    for v in marks {
+        anchor_mark(w, caps, rows, d, Mark(*v));
     }
 }
 

@@ -12,7 +12,7 @@ use Rattle.numbers.specs.Room.{room}
 use Rattle.words.specs.Words.{Only}
 use Rattle.words.proofs.Frame.{only_none}
 use Rattle.numbers.specs.declared.Caps.{Caps}
-use Rattle.store.specs.declared.Opened.TheVariants.{Mesh}
+use Rattle.std.specs.Prelude.{Result, ⊤, Ok, Err}
 use Rattle.store.specs.Open.{room_in, caps_in, opened}
 use Rattle.map.specs.Cells.{Map}
 use Rattle.map.specs.Answers.{Check, Answer, answer}
@@ -20,16 +20,12 @@ use Rattle.map.specs.History.{Edit, edit_answer, changed, edited}
 use Rattle.map.specs.Says.{number_of, given, refused, verdict_says}
 use Rattle.map.specs.declared.Refusal.{Refusal}
 use Rattle.map.specs.declared.Refusal.TheVariants.{NotMesh}
-use Rattle.map.specs.declared.Verdict.{Verdict}
-use Rattle.map.specs.declared.Verdict.TheVariants.{Accepted, Refused}
 use Rattle.laws.proofs.Edits.{edited_changed}
 use Rattle.picture.specs.Picture.{Wf}
 use Rattle.edit.specs.Edit.{Made}
 use Rattle.checks.specs.Checked.{Checked}
 use Rattle.map.proofs.Refusals.{number_some}
 use Rattle.checks.specs.Opening.{Opens}
-use Rattle.checks.specs.declared.Opening.{Opening}
-use Rattle.checks.specs.declared.Opening.TheVariants as Opening'
 use Rattle.checks.proofs.Opens.{mesh_opened, wf_caps}
 use Rattle.mesh.specs.Edited.{Edited}
 
@@ -40,11 +36,11 @@ edited_kept m e why q = rw (← q, ne_eqb (number_of why) 0 (λ z. omega (arith,
 
 module _ (w : List ℕ) (e : Edit) where
   -- refused: no mesh, or by its checks
-  pub edited_refused : (checks : Map → List Check) → ((m : Map) → edit_answer m e ≡ answer (checks m) []) → (opening : Opening) → Opens w checks opening
-      → (why : Refusal) → opening ≡ Opening'.Refused why → Edited w e (Refused why) w
+  pub edited_refused : (checks : Map → List Check) → ((m : Map) → edit_answer m e ≡ answer (checks m) []) → (opening : Result Caps Refusal) → Opens w checks opening
+      → (why : Refusal) → opening ≡ Err why → Edited w e (Err why) w
   unfolding verdict_says
   edited_refused checks says opening o why q = record {
-    refused = λ none. ap Refused (o.no_mesh why q none);
+    refused = λ none. ap Err (o.no_mesh why q none);
     kept = λ other z. refl;
     inside = only_none;
     answers = λ m wf.
@@ -52,9 +48,9 @@ module _ (w : List ℕ) (e : Edit) where
         (a, subst (λ (k : Map). Wf w k) (sym (edited_kept m e why a)) wf);
   }
 
-  module _ (caps : Caps) (opens : Mesh caps ≡ opened w) (checks : Map → List Check) (says : (m : Map) → edit_answer m e ≡ answer (checks m) []) (verdict : Verdict)
+  module _ (caps : Caps) (opens : Ok caps ≡ opened w) (checks : Map → List Check) (says : (m : Map) → edit_answer m e ≡ answer (checks m) []) (verdict : Result ⊤ Refusal)
       (checked : Checked w caps checks verdict) where
-    pub edited_made : verdict ≡ Accepted → (w' : List ℕ) → Made caps w w' e → Edited w e Accepted w'
+    pub edited_made : verdict ≡ (Ok tt) → (w' : List ℕ) → Made caps w w' e → Edited w e (Ok tt) w'
     unfolding verdict_says given caps_in
     edited_made v w' made = record {
       refused = λ none. absurd (clash (mesh_opened w caps opens).0 none);
@@ -67,5 +63,5 @@ module _ (w : List ℕ) (e : Edit) where
           (q, subst (λ (k : Map). Wf w' k) (sym (edited_changed m e ok)) (made.wf m c wf ok));
     }
       where
-        never : (why : Refusal) → Accepted ≡ Refused why → ⊥
+        never : (why : Refusal) → ◌≡◌ {A = Result ⊤ Refusal} (Ok tt) (Err why) → ⊥
         never why z = let o : ◌≡◌ {A = ℕ} 0 1 = cc in omega arith

@@ -8,7 +8,8 @@ use Rattle.words.specs.Words.{Only}
 use Rattle.words.proofs.Frame.{only_none, only_then}
 use Rattle.map.specs.Cells.{Map}
 use Rattle.map.specs.History.{Edit, edited, history}
-use Rattle.map.specs.declared.Verdict.{Verdict}
+use Rattle.map.specs.declared.Refusal.{Refusal}
+use Rattle.std.specs.Prelude.{Result, ⊤}
 use Rattle.map.proofs.Says.{verdict_one}
 use Rattle.laws.proofs.Edits.{edited_caps, history_caps}
 use Rattle.picture.specs.Picture.{Wf}
@@ -26,7 +27,7 @@ history_room : (m : Map) (es : List Edit) → room (history m es).caps.marks (hi
 history_room m es = ap (λ (caps : Caps). room caps.marks caps.cells) (history_caps m es)
 
 -- an edit changes nothing beyond the room
-edit_inside : {w w' : List ℕ} {e : Edit} {r : Verdict} → Edited w e r w' → (m : Map) → Wf w m
+edit_inside : {w w' : List ℕ} {e : Edit} {r : Result ⊤ Refusal} → Edited w e r w' → (m : Map) → Wf w m
     → Only (λ i. i < room m.caps.marks m.caps.cells) w w'
 edit_inside {w} x m wf = rw (head_marks w m wf, head_cells w m wf) at x.inside
 
@@ -43,7 +44,7 @@ run_inside (then r e rest) m wf =
     only_then (edit_inside e m wf) (rw (edited_room m _) at (run_inside rest (edited m _) (e.answers m wf).1))
 
 -- nothing else fits: on well-formed memory the promise of an edit leaves one answer and one memory
-pub edit_one : {w a b : List ℕ} {e : Edit} {r s : Verdict} → Edited w e r a → Edited w e s b → (m : Map) → Wf w m → (r ≡ s) × (a ≡ b)
+pub edit_one : {w a b : List ℕ} {e : Edit} {r s : Result ⊤ Refusal} → Edited w e r a → Edited w e s b → (m : Map) → Wf w m → (r ≡ s) × (a ≡ b)
 edit_one {w} {e = e} {r} {s} x y m wf =
     let u = x.answers m wf in
     let v = y.answers m wf in (

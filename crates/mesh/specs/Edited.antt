@@ -1,6 +1,6 @@
 -- What an edit promises: memory that is no mesh is refused with 14; a refusal changes nothing, on any memory; nothing beyond the room
 -- changes; on well-formed memory the answer is the definition's, and what is left is the well-formed memory of the edited map.
-use Rattle.std.specs.Prelude.{◌≡◌, false, List, ℕ, ◌<◌}
+use Rattle.std.specs.Prelude.{◌≡◌, false, List, ℕ, ◌<◌, Result, ⊤, Err}
 use Rattle.numbers.specs.Room.{room}
 use Rattle.words.specs.Words.{Only}
 use Rattle.numbers.specs.declared.Caps.{Caps}
@@ -10,13 +10,11 @@ use Rattle.map.specs.History.{Edit, Remove, edit_answer, changed, edited}
 use Rattle.map.specs.Says.{verdict_says}
 use Rattle.map.specs.declared.Refusal.{Refusal}
 use Rattle.map.specs.declared.Refusal.TheVariants.{NotMesh}
-use Rattle.map.specs.declared.Verdict.{Verdict}
-use Rattle.map.specs.declared.Verdict.TheVariants.{Refused}
 use Rattle.picture.specs.Picture.{Wf}
 
-pub record Edited (w : List ℕ) (e : Edit) (r : Verdict) (w' : List ℕ) : Type 0 where
-  pub refused : is_mesh w ≡ false → r ≡ Refused NotMesh
-  pub kept : (why : Refusal) → r ≡ Refused why → w' ≡ w
+pub record Edited (w : List ℕ) (e : Edit) (r : Result ⊤ Refusal) (w' : List ℕ) : Type 0 where
+  pub refused : is_mesh w ≡ false → r ≡ Err NotMesh
+  pub kept : (why : Refusal) → r ≡ Err why → w' ≡ w
   pub inside : Only (λ i. i < room_in w) w w'
   pub answers : (m : Map) → Wf w m → (verdict_says r ≡ edit_answer m e) × Wf w' (edited m e)
 

@@ -15,17 +15,17 @@ ghost use Rattle.mesh.specs.Edited.{Edited, TakenOut};
 ghost use Rattle.store.specs.Layout.{near_marks};
 
 use chain::leads_out;
-use checks::{Opening, about_cell};
+use checks::about_cell;
 use edit::{clear_siblings, relink_all};
 use facet::marks_at;
 use insert_checks::about_insert;
-use map::Verdict;
+use map::Refusal;
 use mend::settle;
 use numbers::{Caps, Cell, MOST_CAPACITY};
 use picture::{put_body, put_count};
 use shapes::{MOST_MARKS, facet_table, mark_count};
 use store::{NEAR_MARKS, code_of, count_of};
-use words::{part, put, word};
+use words::{part, put};
 
 // A cell that was admitted, put into the mesh: its record, its chains, what is around it, the count.
 fn make_insert(w: &mut [u32], caps: Caps, c: Cell, t: u32, licence: u32, marks: &[u32])
@@ -50,20 +50,22 @@ fn in_far(marks: &[u32]) -> bool
 }
 
 // A cell of the caller's number, of a type, with a licence, on marks.
-pub fn insert_licensed(w: &mut [u32], c: Cell, t: u32, licence: u32, marks: &[u32]) -> Verdict
+pub fn insert_licensed(
+    w: &mut [u32],
+    c: Cell,
+    t: u32,
+    licence: u32,
+    marks: &[u32],
+) -> Result<(), Refusal>
     ensures { Edited w.old (Insert c.0 (licensed_body t licence marks.now)) result w.new }
 {
-    match about_insert(w, c, t, marks) {
-        Opening::Refused(why) => Verdict::Refused(why),
-        Opening::Open(caps) => {
-            make_insert(w, caps, c, t, licence, marks);
-            Verdict::Accepted
-        }
-    }
+    let caps = about_insert(w, c, t, marks)?;
+    make_insert(w, caps, c, t, licence, marks);
+    Ok(())
 }
 
 // A cell of the caller's number, of a type, on marks, without a licence.
-pub fn insert(w: &mut [u32], c: Cell, t: u32, marks: &[u32]) -> Verdict
+pub fn insert(w: &mut [u32], c: Cell, t: u32, marks: &[u32]) -> Result<(), Refusal>
     ensures { Edited w.old (Insert c.0 (body_of t marks.now)) result w.new }
 {
     insert_licensed(w, c, t, 0, marks)
@@ -90,10 +92,8 @@ fn copy_marks(w: &[u32], caps: Caps, c: Cell, out: &mut [u32])
     ensures { Filled (marks_in w.now caps c.0) out.old out.new }
 {
     let marks = marks_at(w, caps, c);
-    let mut k: usize = 0;
-    while k < marks.len() {
-        put(out, k, word(marks, k));
-        k += 1;
+    for (k, v) in marks.iter().enumerate() {
+        put(out, k, *v);
     }
 }
 
@@ -112,14 +112,10 @@ fn make_remove(w: &mut [u32], caps: Caps, c: Cell)
 }
 
 // A live cell, removed.
-pub fn remove(w: &mut [u32], c: Cell) -> Verdict
+pub fn remove(w: &mut [u32], c: Cell) -> Result<(), Refusal>
     ensures { Edited w.old (Remove c.0) result w.new }
 {
-    match about_cell(w, c) {
-        Opening::Refused(why) => Verdict::Refused(why),
-        Opening::Open(caps) => {
-            make_remove(w, caps, c);
-            Verdict::Accepted
-        }
-    }
+    let caps = about_cell(w, c)?;
+    make_remove(w, caps, c);
+    Ok(())
 }

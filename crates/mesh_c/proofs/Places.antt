@@ -12,7 +12,7 @@ use Rattle.words.specs.Words.{part_of}
 use Rattle.shapes.specs.Shapes.{shape}
 use Rattle.shapes.proofs.Facts.{facts}
 use Rattle.numbers.specs.declared.Caps.{Caps}
-use Rattle.store.specs.declared.Opened.TheVariants.{Mesh, Nothing}
+use Rattle.std.specs.Prelude.{Result, Ok, Err}
 use Rattle.store.specs.Layout.{near_at, far_at, room}
 use Rattle.store.specs.Slots.{marks_at}
 use Rattle.store.proofs.Marks.{marks_fit}
@@ -24,8 +24,6 @@ use Rattle.map.specs.Answers.{Answer, ◌when◌, answer, cell_checks, type_answ
 use Rattle.map.specs.Says.{number_of, given, refused, value_says}
 use Rattle.map.specs.declared.Refusal.{Refusal}
 use Rattle.map.specs.declared.Refusal.TheVariants.{NotMesh}
-use Rattle.map.specs.declared.Value.{Value}
-use Rattle.map.specs.declared.Value.TheVariants as Value'
 use Rattle.picture.specs.State.{state_of}
 use Rattle.picture.specs.Picture.{Wf}
 use Rattle.picture.proofs.Record.{marks_read}
@@ -55,7 +53,7 @@ module _ (m : Map) (c t : ℕ) where
       go false l false e = (leb-false m.caps.cells c l, ap (λ (a : Answer). get_or a.values 0 0) e)
 
 -- memory that is no mesh
-pub marks_none : (w : List ℕ) → Nothing ≡ opened w → (c at n r : ℕ) → r ≡ number_of NotMesh → MarksTold w c at n r at n
+pub marks_none : (w : List ℕ) → (Err NotMesh) ≡ opened w → (c at n r : ℕ) → r ≡ number_of NotMesh → MarksTold w c at n r at n
 marks_none w none c at n r e = record {
   refused = λ _. e;
   kept = λ _. (refl, refl);
@@ -65,14 +63,14 @@ marks_none w none c at n r e = record {
   marks = λ m wf z. absurd (omega arith);
 }
 
-module _ (w : List ℕ) (c : ℕ) (a : Value) (asked : Asked value_says no_value w (λ m. type_answer m c) a) (at n : ℕ) where
-  pub marks_refused : (why : Refusal) → a ≡ Value'.Refused why → (r : ℕ) → r ≡ number_of why → MarksTold w c at n r at n
+module _ (w : List ℕ) (c : ℕ) (a : Result ℕ Refusal) (asked : Asked value_says no_value w (λ m. type_answer m c) a) (at n : ℕ) where
+  pub marks_refused : (why : Refusal) → a ≡ Err why → (r : ℕ) → r ≡ number_of why → MarksTold w c at n r at n
   unfolding value_says refused
   marks_refused why v r e = record {
-    refused = λ none. e ∙ ap (λ (u : Value). (value_says u).refusal) (sym v ∙ asked.refused none);
+    refused = λ none. e ∙ ap (λ (u : Result ℕ Refusal). (value_says u).refusal) (sym v ∙ asked.refused none);
     kept = λ _. (refl, refl);
     inside = λ z. absurd (some z);
-    answers = λ m wf. e ∙ (ap (λ (u : Value). (value_says u).refusal) (sym v) ∙ ap (λ (b : Answer). b.refusal) (asked.answers m wf));
+    answers = λ m wf. e ∙ (ap (λ (u : Result ℕ Refusal). (value_says u).refusal) (sym v) ∙ ap (λ (b : Answer). b.refusal) (asked.answers m wf));
     place = λ m wf z. absurd (some z);
     marks = λ m wf z. absurd (some z);
   }
@@ -80,7 +78,7 @@ module _ (w : List ℕ) (c : ℕ) (a : Value) (asked : Asked value_says no_value
       some : r ≡ 0 → ⊥
       some z = omega (arith, number_some why)
 
-  module _ (caps : Caps) (opens : Mesh caps ≡ opened w) (t : ℕ) (v : a ≡ Value'.Is t) (k p : ℕ) (q : k ≡ (shape t).marks) (at_place : p ≡ marks_at caps c k) where
+  module _ (caps : Caps) (opens : Ok caps ≡ opened w) (t : ℕ) (v : a ≡ Ok t) (k p : ℕ) (q : k ≡ (shape t).marks) (at_place : p ≡ marks_at caps c k) where
     type_given : (m : Map) → Wf w m → given (t ∷ []) ≡ type_answer m c
     unfolding value_says
     type_given m wf = ap value_says (sym v) ∙ asked.answers m wf

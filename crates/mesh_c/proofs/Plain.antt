@@ -3,12 +3,7 @@ use mathlib.Core.Path.{◌≡◌, refl}
 use mathlib.Core.List.{[]}
 use Rattle.map.specs.Answers.{Answer}
 use Rattle.map.specs.Says.{given, refused, value_says, pair_says, cell_says, half_says, truth_says, found_says}
-use Rattle.map.specs.declared.Value.TheVariants as Value
-use Rattle.map.specs.declared.Pair.TheVariants as Pair
-use Rattle.map.specs.declared.CellAt.TheVariants as CellAt
-use Rattle.map.specs.declared.HalfAt.TheVariants as HalfAt
-use Rattle.map.specs.declared.Truth.TheVariants as Truth
-use Rattle.map.specs.declared.Found.TheVariants as Found
+use Rattle.std.specs.Prelude.{Ok, Err, Some, None, true, false}
 use Rattle.ask.specs.Refusals.{no_value, no_pair, no_cell, no_half, no_truth, no_found}
 
 abbrev pub Quiet : {A : Type 0} → (A → Answer) → Type 0
@@ -20,36 +15,36 @@ pub record Plain {A : Type 0} (says : A → Answer) (noMesh : A) : Type 0 where
 
 value_quiet : Quiet value_says
 unfolding value_says given refused
-value_quiet (Value.Is n) some = absurd (some refl)
-value_quiet (Value.Refused why) some = refl
+value_quiet (Ok n) some = absurd (some refl)
+value_quiet (Err why) some = refl
 
 pair_quiet : Quiet pair_says
 unfolding pair_says given refused
-pair_quiet (Pair.Are n k) some = absurd (some refl)
-pair_quiet (Pair.Refused why) some = refl
+pair_quiet (Ok (n, k)) some = absurd (some refl)
+pair_quiet (Err why) some = refl
 
 cell_quiet : Quiet cell_says
 unfolding cell_says given refused
-cell_quiet (CellAt.At c) some = absurd (some refl)
-cell_quiet CellAt.Nothing some = absurd (some refl)
-cell_quiet (CellAt.Refused why) some = refl
+cell_quiet (Ok (Some c)) some = absurd (some refl)
+cell_quiet (Ok None) some = absurd (some refl)
+cell_quiet (Err why) some = refl
 
 half_quiet : Quiet half_says
 unfolding half_says given refused
-half_quiet (HalfAt.At h way) some = absurd (some refl)
-half_quiet (HalfAt.Refused why) some = refl
+half_quiet (Ok (h, way)) some = absurd (some refl)
+half_quiet (Err why) some = refl
 
 truth_quiet : Quiet truth_says
 unfolding truth_says given refused
-truth_quiet Truth.Yes some = absurd (some refl)
-truth_quiet Truth.No some = absurd (some refl)
-truth_quiet (Truth.Refused why) some = refl
+truth_quiet (Ok true) some = absurd (some refl)
+truth_quiet (Ok false) some = absurd (some refl)
+truth_quiet (Err why) some = refl
 
 found_quiet : Quiet found_says
 unfolding found_says given refused
-found_quiet (Found.At h) some = absurd (some refl)
-found_quiet Found.Nothing some = absurd (some refl)
-found_quiet (Found.Refused why) some = refl
+found_quiet (Ok (Some h)) some = absurd (some refl)
+found_quiet (Ok None) some = absurd (some refl)
+found_quiet (Err why) some = refl
 
 pub value_plain : Plain value_says no_value
 unfolding value_says refused

@@ -11,8 +11,8 @@ use Rattle.words.specs.Words.{Only}
 use Rattle.map.specs.Cells.{Map}
 use Rattle.map.specs.Answers.{Check, Answer, list_answer}
 use Rattle.map.specs.Says.{given, refused, value_says}
-use Rattle.map.specs.declared.Value.{Value}
-use Rattle.map.specs.declared.Value.TheVariants as Value'
+use Rattle.map.specs.declared.Refusal.{Refusal}
+use Rattle.std.specs.Prelude.{Result, Ok, Err}
 use Rattle.map.proofs.Refusals.{number_some}
 use Rattle.ask.specs.Asked.{Asked}
 use Rattle.ask.specs.Refusals.{no_value}
@@ -54,21 +54,21 @@ faced plain w answer a asked x y r x' y' t = record {
 }
 
 module _ (places : ℕ) (w : List ℕ) (checks : Map → List Check) (list : Map → List ℕ) (o o' : List ℕ) where
-  list_asked : (a : Value) → ListingIn places w checks list o a o' → Asked value_says no_value w (λ m. list_answer (checks m) (list m) places) a
+  list_asked : (a : Result ℕ Refusal) → ListingIn places w checks list o a o' → Asked value_says no_value w (λ m. list_answer (checks m) (list m) places) a
   list_asked a l = record { refused = l.refused; answers = λ m wf. (l.answers m wf).0 }
 
   -- told of a refusal, the output is as it was
-  list_kept : (a : Value) → ListingIn places w checks list o a o' → (r : ℕ) → r ≡ (value_says a).refusal → (r ≡ 0 → ⊥) → o' ≡ o
+  list_kept : (a : Result ℕ Refusal) → ListingIn places w checks list o a o' → (r : ℕ) → r ≡ (value_says a).refusal → (r ≡ 0 → ⊥) → o' ≡ o
   unfolding value_says given
-  list_kept (Value'.Is n) l r e some = absurd (some e)
-  list_kept (Value'.Refused why) l r e some = l.kept why refl
+  list_kept (Ok n) l r e some = absurd (some e)
+  list_kept (Err why) l r e some = l.kept why refl
 
-  list_first : (a : Value) → ListingIn places w checks list o a o' → (n r n' : ℕ) → Told (value_says a) n r n' → r ≡ 0 → (n' ≤ length o) × Only (λ i. i < n') o o'
+  list_first : (a : Result ℕ Refusal) → ListingIn places w checks list o a o' → (n r n' : ℕ) → Told (value_says a) n r n' → r ≡ 0 → (n' ≤ length o) × Only (λ i. i < n') o o'
   unfolding value_says given refused first
-  list_first (Value'.Is k) l n r n' told z = rw told.value (l.first k refl)
-  list_first (Value'.Refused why) l n r n' told z = absurd (omega (arith, z, told.number, number_some why))
+  list_first (Ok k) l n r n' told z = rw told.value (l.first k refl)
+  list_first (Err why) l n r n' told z = absurd (omega (arith, z, told.number, number_some why))
 
-  listed_in : (a : Value) → ListingIn places w checks list o a o' → (n r n' : ℕ) → Told (value_says a) n r n' → ListedIn places w checks list o n r o' n'
+  listed_in : (a : Result ℕ Refusal) → ListingIn places w checks list o a o' → (n r n' : ℕ) → Told (value_says a) n r n' → ListedIn places w checks list o n r o' n'
   listed_in a l n r n' told = record {
     count = answered value_plain w (λ m. list_answer (checks m) (list m) places) a (list_asked a l) n r n' told;
     kept = list_kept a l r told.number;
@@ -76,11 +76,11 @@ module _ (places : ℕ) (w : List ℕ) (checks : Map → List Check) (list : Map
     wrote = λ m wf. (l.answers m wf).1;
   }
 
-pub listed_out : (w : List ℕ) (checks : Map → List Check) (list : Map → List ℕ) (o o' : List ℕ) (a : Value) → Listing w checks list o a o'
+pub listed_out : (w : List ℕ) (checks : Map → List Check) (list : Map → List ℕ) (o o' : List ℕ) (a : Result ℕ Refusal) → Listing w checks list o a o'
     → (n r n' : ℕ) → Told (value_says a) n r n' → Listed w checks list o n r o' n'
 listed_out w checks list o o' = listed_in (length o) w checks list o o'
 
-pub two_out : (w : List ℕ) (checks : Map → List Check) (list beside : Map → List ℕ) (o p o' p' : List ℕ) (a : Value) → Paired w checks list beside o p a o' p'
+pub two_out : (w : List ℕ) (checks : Map → List Check) (list beside : Map → List ℕ) (o p o' p' : List ℕ) (a : Result ℕ Refusal) → Paired w checks list beside o p a o' p'
     → (n r n' : ℕ) → Told (value_says a) n r n' → ListedTwo w checks list beside o p n r o' p' n'
 two_out w checks list beside o p o' p' a q n r n' told = record {
   entries = listed_in (min (length o) (length p)) w checks list o o' a q.entries n r n' told;

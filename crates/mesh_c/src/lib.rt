@@ -47,7 +47,7 @@ use format::{format, format_edition};
 use journal::{begin, enter_insert, enter_remove};
 use journal_whole::whole_journal;
 use listing::{anchors, cells_of_type, cycle, live, lookup, neighbours, star};
-use map::{Refusal, Value};
+use map::Refusal;
 use matcher::licences;
 use mesh::{insert, insert_licensed, remove};
 use numbers::{Cell, Mark};
@@ -55,7 +55,7 @@ use plan_check::plan_check;
 use planner::plan;
 use positions::{centre, measure, points};
 use shapes::mark_count;
-use store::{Opened, marks_place, open};
+use store::{marks_place, open};
 use surfaces::read_off;
 use surfaces_out::write_off;
 use whole::whole;
@@ -178,12 +178,12 @@ pub extern "C" fn mk_licence(mesh: &[u32], cell: u32, licence: &mut u32) -> u8
 pub extern "C" fn mk_marks(mesh: &[u32], cell: u32, at: &mut u32, count: &mut u32) -> u8
     ensures { MarksTold mesh.now cell at.old count.old result at.new count.new }
 {
-    let Opened::Mesh(caps) = open(mesh) else {
+    let Ok(caps) = open(mesh) else {
         return byte_of(Refusal::NotMesh);
     };
     match type_of(mesh, Cell(cell)) {
-        Value::Refused(why) => byte_of(why),
-        Value::Is(code) => {
+        Err(why) => byte_of(why),
+        Ok(code) => {
             let n = mark_count(code);
             let place = marks_place(caps, Cell(cell), n as usize);
             if mesh.len() < n as usize {

@@ -1,19 +1,20 @@
 -- The code's way along a text: from place to place, and from word to word.
-use mathlib.Core.Path.{◌≡◌, refl, sym, ap, ◌∙◌}
-use mathlib.Core.Bool.{Bool, true, false}
+use mathlib.Core.Path.{◌≡◌, sym, ap, ◌∙◌}
+use mathlib.Core.Bool.{true, false}
 use mathlib.Core.List.{List, [], ◌∷◌}
+use Rattle.std.specs.Prelude.{Some, None}
 use mathlib.Core.Logic.{⊎_elim}
-use Prim.Native.Nat.{ℕ, zero, suc, ◌+◌, ◌-◌, ◌<◌, ◌≤◌}
+use Prim.Native.Nat.{ℕ, ◌+◌, ◌-◌, ◌<◌, ◌≤◌, max}
 use native.Mathlib.Nat.{not-suc-le-zero}
+use native.Mathlib.Decide.{dec_le}
 use native.Mathlib.Numerals.{add-one}
 use native.Mathlib.Omega.{arith}
 use lib.ListN.{length, get_or, take, drop, drop_of_length-le, length-take, length-drop}
 use lib.Seq.{drop-cons, drop-drop, get_or-drop}
 use Rattle.lists.proofs.Bools.{either}
-use Rattle.off.specs.Words.{parts, Word, word_at, words_from}
+use Rattle.off.specs.Words.{parts, word_at, words_from}
 use Rattle.off.specs.Scan.{gap, run}
 use Rattle.off.specs.Forms.{next_of}
-use Rattle.off.specs.declared.Next.TheVariants as Next'
 use Rattle.off.proofs.Words.{words_run, words_skip, words_none, run_stop, run_on, run_none, gap_stop, gap_on, gap_none}
 
 rest : (l : List ℕ) (i : ℕ) → i < length l → drop i l ≡ get_or l i 0 ∷ drop (i + 1) l
@@ -37,6 +38,22 @@ gap_end l i h = rw (drop_of_length-le l {i = i} h, gap_none) (omega arith)
 
 pub run_end : (l : List ℕ) (i : ℕ) → length l ≤ i → i ≡ i + run (drop i l)
 run_end l i h = rw (drop_of_length-le l {i = i} h, run_none) (omega arith)
+
+-- a text gone along to its end
+module _ (l : List ℕ) (at i r : ℕ) (h : length l ≤ i) (most : at ≤ length l → i ≤ length l) (e : r ≡ max at (length l)) where
+  pub gap_past : at + gap (drop at l) ≡ i + gap (drop i l) → r ≡ at + gap (drop at l)
+  gap_past inv = go (dec_le at (length l))
+    where
+      go : Dec (at ≤ length l) → r ≡ at + gap (drop at l)
+      go (yes few) = let last = most few in let same : r ≡ i = omega arith in same ∙ (gap_end l i h ∙ sym inv)
+      go (no n) = let same : r ≡ at = omega arith in same ∙ gap_end l at (omega arith)
+
+  pub run_past : at + run (drop at l) ≡ i + run (drop i l) → r ≡ at + run (drop at l)
+  run_past inv = go (dec_le at (length l))
+    where
+      go : Dec (at ≤ length l) → r ≡ at + run (drop at l)
+      go (yes few) = let last = most few in let same : r ≡ i = omega arith in same ∙ (run_end l i h ∙ sym inv)
+      go (no n) = let same : r ≡ at = omega arith in same ∙ run_end l at (omega arith)
 
 -- behind what parts words stands a byte that does not
 gap_most : (l : List ℕ) → gap l < length l → parts (get_or l (gap l) 0) ≡ false
@@ -62,7 +79,7 @@ module _ (l : List ℕ) (at f : ℕ) (e : f ≡ at + gap (drop at l)) where
   words_from_lem : words_from at (drop at l) ≡ words_from f (drop f l)
   words_from_lem = rw e (words_skip (drop at l) at ∙ ap (words_from (at + gap (drop at l))) (drop-drop (gap (drop at l)) at l))
 
-  pub next_none : length l ≤ f → Next'.End ≡ next_of (words_from at (drop at l))
+  pub next_none : length l ≤ f → None ≡ next_of (words_from at (drop at l))
   unfolding next_of
   next_none h = rw (words_from_lem, drop_of_length-le l {i = f} h, words_none f)
 
@@ -86,7 +103,7 @@ module _ (l : List ℕ) (at f : ℕ) (e : f ≡ at + gap (drop at l)) where
         let behind : drop (run (drop f l)) (drop f l) ≡ drop g l = drop-drop (run (drop f l)) f l ∙ ap (λ (k : ℕ). drop k l) (sym s) in
         words_from_lem ∙ (words_first (drop f l) f some_bytes ∙ rw (size, behind, ← s))
 
-    pub next_some : Next'.Word f (record { at = g }) ≡ next_of (words_from at (drop at l))
+    pub next_some : Some (record { first = f; behind = record { at = g } }) ≡ next_of (words_from at (drop at l))
     unfolding next_of
     next_some =
         let size : length (take (g - f) (drop f l)) ≡ g - f = omega (arith, length-take (g - f) (drop f l), length-drop f l, word_ends) in

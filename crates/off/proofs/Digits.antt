@@ -1,14 +1,13 @@
 -- The digits of a number are read back as that number.
-use mathlib.Core.Path.{◌≡◌, refl, sym, ap, ◌∙◌}
-use mathlib.Core.Bool.{Bool, true, false, cond, not, ◌&&◌, ◌||◌}
+use mathlib.Core.Path.{◌≡◌, refl, ◌∙◌}
+use mathlib.Core.Bool.{Bool, true, cond, ◌&&◌}
 use mathlib.Core.List.{List, [], ◌∷◌, ◌++◌}
-use mathlib.Core.Logic.{⊎_elim}
 use Prim.Native.Nat.{ℕ, zero, suc, ◌+◌, ◌-◌, ◌*◌, ◌/◌, ◌%◌, ◌<◌, ◌≤◌}
 use native.Mathlib.Decide.{dec_lt}
 use native.Mathlib.Nat.{not-suc-le-zero}
 use native.Mathlib.Omega.{arith}
 use borrow.Author.Tests.{lt-ltb, le-ltb, le-leb, leb-true, ne_eqb}
-use lib.Dec.{eqb, leb, ltb}
+use lib.Dec.{leb, ltb}
 use lib.ListN.{length, length-append}
 use lib.IntN.{ℤ, pos, negsuc}
 use mir.Syntax.{w16}
@@ -16,7 +15,7 @@ use mir.Val.{SFits}
 use Rattle.lists.specs.Lists.{all}
 use Rattle.lists.proofs.Bools.{and_left, and_right, and_both}
 use Rattle.off.specs.Words.{parts}
-use Rattle.off.specs.Numbers.{Says, Is, is_digit, decimal, most_digits, number_of, within, minus, coordinate_of}
+use Rattle.off.specs.Numbers.{Is, is_digit, decimal, most_digits, number_of, within, minus, coordinate_of}
 use Rattle.off.specs.Writing.{digits_to, digits_of, coordinate_text}
 use Rattle.off.proofs.Joined.{plain, fine}
 

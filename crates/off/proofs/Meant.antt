@@ -1,12 +1,12 @@
 -- Words that say what was meant are read as it.
-use mathlib.Core.Path.{◌≡◌, refl, sym, ap, ◌∙◌}
+use mathlib.Core.Path.{◌≡◌, refl, ap, ◌∙◌}
 use mathlib.Core.List.{List, [], ◌∷◌, ◌++◌, map}
-use Prim.Native.Nat.{ℕ, zero, suc, ◌+◌}
+use Prim.Native.Nat.{ℕ, suc}
 use native.Mathlib.Omega.{arith}
 use lib.ListN.{length}
 use Rattle.off.specs.Words.{Word}
 use Rattle.off.specs.Numbers.{Says, Is}
-use Rattle.off.specs.Reading.{Read, Got, ◌then◌, one, many}
+use Rattle.off.specs.Reading.{Got, ◌then◌, one, many}
 use Rattle.off.proofs.Joined.{spelled}
 
 -- each of a list

@@ -1,7 +1,7 @@
 -- What is written is read back: the counts, the positions and the faces, numbered 0, 1, 2 and so on.
-use mathlib.Core.Path.{◌≡◌, refl, sym, ap, ◌∙◌}
-use mathlib.Core.Bool.{Bool, true, ◌&&◌, ◌||◌}
-use mathlib.Core.List.{List, [], ◌∷◌, ◌++◌, append_assoc, append-nil, map}
+use mathlib.Core.Path.{◌≡◌, refl, ap}
+use mathlib.Core.Bool.{true, ◌||◌}
+use mathlib.Core.List.{List, [], ◌∷◌, ◌++◌, append_assoc, map}
 use Prim.Native.Nat.{ℕ, zero, suc, ◌+◌, ◌*◌, ◌<◌, ◌≤◌}
 use native.Mathlib.Decide.{dec_lt}
 use native.Mathlib.Omega.{arith}
@@ -15,9 +15,9 @@ use mir.Val.{SFits}
 use Rattle.lists.specs.Lists.{all, same}
 use Rattle.lists.proofs.Bools.{and_both, or_left, or_right}
 use Rattle.off.specs.Words.{parts, Word, words_from}
-use Rattle.off.specs.Numbers.{Says, Is, number_of, coordinate_of, three_or_four, size_of, title, title_of}
-use Rattle.off.specs.Reading.{Read, Got, ◌then◌, one, many, face_code, face, faces, Surface, ended, read_words, reading}
-use Rattle.off.specs.Writing.{digits_of, coordinate_text, line, counts_line, vertex_line, face_line, vertex_lines, face_lines, text_of, records_from}
+use Rattle.off.specs.Numbers.{Is, number_of, coordinate_of, three_or_four, size_of, title, title_of}
+use Rattle.off.specs.Reading.{Got, ◌then◌, one, many, face_code, face, faces, Surface, ended, read_words, reading}
+use Rattle.off.specs.Writing.{digits_of, coordinate_text, counts_line, vertex_line, face_line, vertex_lines, face_lines, text_of, records_from}
 use Rattle.off.proofs.Joined.{plain, fine, spelled, Spells, spells_none, spells_line}
 use Rattle.off.proofs.Digits.{digits_fine, number_read, coordinate_read, coordinate_fine}
 use Rattle.off.proofs.Meant.{Each, none, more, read_one, read_many, read_count}

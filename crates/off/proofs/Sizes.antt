@@ -1,78 +1,35 @@
 -- The size of a face, and the word OFF.
-use mathlib.Core.Path.{◌≡◌, refl, sym, ap, ◌∙◌}
-use mathlib.Core.Bool.{Bool, true, false, ◌&&◌}
+use mathlib.Core.Path.{◌≡◌, refl, ap, ◌∙◌}
+use mathlib.Core.Bool.{Bool, true, false, ◌&&◌, ◌||◌}
 use mathlib.Core.List.{List, [], ◌∷◌}
-use Prim.Native.Nat.{ℕ, suc, ◌<◌}
-use native.Mathlib.Omega.{arith}
-use borrow.Author.Tests.{eq-eqb, ne_eqb}
+use Rattle.std.specs.Prelude.{Option, Some, None, MatchOption}
+use Rattle.std.specs.Bool.{then_some}
+use Prim.Native.Nat.{ℕ}
 use lib.Dec.{eqb}
-use lib.ListN.{length, get_or}
+use lib.Pointwise.{pointwise}
+use Rattle.lists.proofs.Tested.{pointwise_same}
 use Rattle.lists.specs.Lists.{same}
-use Rattle.lists.proofs.Alike.{and_false}
-use Rattle.off.specs.Numbers.{Says, Is, Breaks, number_of, three_or_four, size_of, title}
-use Rattle.off.specs.Forms.{number_said, meant}
-use Rattle.off.specs.declared.Number as Number
-use Rattle.off.specs.declared.Number.TheVariants as Number'
-use Rattle.off.proofs.Values.{meant_said}
+use Rattle.off.specs.Numbers.{Is, Breaks, number_of, three_or_four, size_of, title}
+use Rattle.off.specs.Forms.{said}
+use Rattle.off.proofs.Values.{said_none, said_some}
 
-module _ (w : List ℕ) (n : Number.Number) (e : n ≡ number_said (number_of w)) where
-  said : (m : Says ℕ) → meant n ≡ m → number_of w ≡ m
-  said m h = sym (meant_said (number_of w)) ∙ (ap meant (sym e) ∙ h)
+-- the number of a word, where it is 3 or 4
+three_or_four_some : (v : ℕ) (t : Bool) → (eqb v 3 || eqb v 4) ≡ t → then_some t v ≡ said (three_or_four (Is v))
+unfolding three_or_four said
+three_or_four_some v true q = rw q
+three_or_four_some v false q = rw q
 
-  pub size_breaks : n ≡ Number'.Breaks → Number'.Breaks ≡ number_said (size_of w)
-  unfolding size_of three_or_four number_said meant
-  size_breaks h = rw (said Breaks (ap meant h))
+three_or_four_none : None ≡ said (three_or_four Breaks)
+unfolding three_or_four said
+three_or_four_none = refl
 
-  module _ (v : ℕ) (h : n ≡ Number'.Is v) where
-    is : number_of w ≡ Is v
-    unfolding meant
-    is = said (Is v) (ap meant h)
+pub size_kept : (w : List ℕ) (n : Option ℕ) → n ≡ said (number_of w) → (r : Option ℕ)
+    → MatchOption n (r ≡ None) (λ v. r ≡ then_some (eqb v 3 || eqb v 4) v) → r ≡ said (size_of w)
+unfolding size_of
+size_kept w None e r h = rw (said_none (number_of w) e) (h ∙ three_or_four_none)
+size_kept w (Some v) e r h = rw (said_some (number_of w) v e) (h ∙ three_or_four_some v (eqb v 3 || eqb v 4) refl)
 
-    pub size_three : v ≡ 3 → Number'.Is 3 ≡ number_said (size_of w)
-    unfolding size_of three_or_four number_said
-    size_three z = rw (is, z)
-
-    pub size_four : v ≡ 4 → Number'.Is 4 ≡ number_said (size_of w)
-    unfolding size_of three_or_four number_said
-    size_four z = rw (is, z)
-
-    pub size_other : (v ≡ 3 → ⊥) → (v ≡ 4 → ⊥) → Number'.Breaks ≡ number_said (size_of w)
-    unfolding size_of three_or_four number_said
-    size_other f g = rw (is, ne_eqb v 3 f, ne_eqb v 4 g)
-
--- the word OFF, byte by byte
-pub title_length : (w : List ℕ) → (length w ≡ 3 → ⊥) → false ≡ same w title
-unfolding same title
-title_length [] f = refl
-title_length (a ∷ []) f = sym (and_false (eqb a 79))
-title_length (a ∷ b ∷ []) f = rw (and_false (eqb b 70), and_false (eqb a 79))
-title_length (a ∷ b ∷ c ∷ []) f = absurd (f refl)
-title_length (a ∷ b ∷ c ∷ d ∷ w) f = rw (and_false (eqb c 70), and_false (eqb b 70), and_false (eqb a 79))
-
-and_true : (b : Bool) → b && true ≡ b
-and_true true = refl
-and_true false = refl
-
-fewer : (n : ℕ) → n < 3 → n ≡ 3 → ⊥
-fewer n h e = omega arith
-
-longer : (n : ℕ) → suc (suc (suc (suc n))) ≡ 3 → ⊥
-longer n e = omega arith
-
-three : (w : List ℕ) → length w ≡ 3 → same w title ≡ eqb (get_or w 0 0) 79 && (eqb (get_or w 1 0) 70 && eqb (get_or w 2 0) 70)
-unfolding same title
-three [] h = absurd (fewer 0 (omega arith) h)
-three (a ∷ []) h = absurd (fewer 1 (omega arith) h)
-three (a ∷ b ∷ []) h = absurd (fewer 2 (omega arith) h)
-three (a ∷ b ∷ c ∷ []) h = rw (and_true (eqb c 70))
-three (a ∷ b ∷ c ∷ d ∷ w) h = absurd (longer (length w) h)
-
-module _ (w : List ℕ) (h : length w ≡ 3) where
-  pub title_first : (get_or w 0 0 ≡ 79 → ⊥) → false ≡ same w title
-  title_first f = rw (three w h, ne_eqb (get_or w 0 0) 79 f)
-
-  pub title_second : get_or w 0 0 ≡ 79 → (get_or w 1 0 ≡ 70 → ⊥) → false ≡ same w title
-  title_second e f = rw (three w h, eq-eqb (get_or w 0 0) 79 e, ne_eqb (get_or w 1 0) 70 f)
-
-  pub title_third : get_or w 0 0 ≡ 79 → get_or w 1 0 ≡ 70 → eqb (get_or w 2 0) 70 ≡ same w title
-  title_third e f = rw (three w h, eq-eqb (get_or w 0 0) 79 e, eq-eqb (get_or w 1 0) 70 f)
+-- the word OFF: two lists are alike where all their bytes are
+pub title_alike : (w l : List ℕ) (r : Bool) → r ≡ pointwise eqb w l → l ≡ 79 ∷ 70 ∷ 70 ∷ [] → r ≡ same w title
+unfolding title
+title_alike w l r e f = e ∙ (pointwise_same w l ∙ ap (same w) f)

@@ -1,61 +1,55 @@
 -- The number of a word, digit by digit.
 use mathlib.Core.Path.{◌≡◌, refl, sym, ap, ◌∙◌}
-use mathlib.Core.Bool.{Bool, true, false, cond, ◌&&◌}
+use mathlib.Core.Bool.{Bool, true, false, ◌&&◌}
 use mathlib.Core.List.{List, [], ◌∷◌}
-use mathlib.Core.Logic.{⊎_elim}
+use Rattle.std.specs.Prelude.{Some, None}
+use Rattle.std.proofs.lemmas.Option.{none-some}
 use Prim.Native.Nat.{ℕ, zero, suc, ◌+◌, ◌-◌, ◌*◌, ◌<◌, ◌≤◌}
 use native.Mathlib.Numerals.{add-one}
 use native.Mathlib.Omega.{arith}
-use native.Mathlib.Nat.{not-suc-le-zero}
-use borrow.Author.Tests.{lt-ltb, le-ltb, le-leb, lt-leb, leb-true, eq-eqb, ne_eqb}
+use Rattle.std.proofs.Math.Nat.{mul-le-mul_left}
+use borrow.Author.Tests.{lt-ltb, le-ltb, le-leb, lt-leb, leb-true}
 use lib.Dec.{leb, ltb}
-use lib.ListN.{length, get_or, take, drop, drop_of_length-le}
-use lib.Seq.{drop-cons, take_all}
+use lib.ListN.{length, get_or, drop, drop_of_length-le}
+use lib.Seq.{drop-cons}
 use Rattle.lists.specs.Lists.{all}
-use Rattle.lists.proofs.Bools.{either, and_left, and_right, clash}
+use Rattle.lists.proofs.Bools.{and_left, and_right}
 use Rattle.lists.proofs.Below.{all_below, below_at}
-use lib.IntN.{ℤ, pos}
-use Rattle.off.specs.Numbers.{Says, Is, Breaks, is_digit, decimal, most_digits, number_of, within, minus, coordinate_of}
+use Rattle.off.specs.Numbers.{Says, Is, Breaks, is_digit, decimal, most_digits, number_of}
 use Rattle.off.specs.Scan.{digit_of}
-use Rattle.off.specs.Forms.{number_said, coordinate_said, meant}
-use Rattle.off.specs.declared.Number as Number
-use Rattle.off.specs.declared.Coordinate as Coordinate
-use Rattle.off.specs.declared.Coordinate.TheVariants as Coordinate'
-use Rattle.off.specs.declared.Number.TheVariants as Number'
+use Rattle.off.specs.Forms.{said}
 
--- the value of a byte, by where it stands among the digits
-pub digit_low : (b : ℕ) → b < 48 → 10 ≡ digit_of b
+-- a digit has its value, and another byte none
+digit_yes : (b d : ℕ) → digit_of b ≡ Some d → (is_digit b ≡ true) × (d ≡ b - 48) × (d ≤ 9)
 unfolding digit_of is_digit
-digit_low b h = rw (lt-leb 48 b h)
-
-pub digit_high : (b : ℕ) → 48 ≤ b → 57 < b → 10 ≡ digit_of b
-unfolding digit_of is_digit
-digit_high b l h = rw (le-leb 48 b l, lt-leb b 57 h)
-
-pub digit_here : (b : ℕ) → 48 ≤ b → b ≤ 57 → b - 48 ≡ digit_of b
-unfolding digit_of is_digit
-digit_here b l h = rw (le-leb 48 b l, le-leb b 57 h)
-
-value_of : (b : ℕ) → is_digit b ≡ true → digit_of b ≡ b - 48
-unfolding digit_of
-value_of b e = rw e
-
-no_value : (b : ℕ) → is_digit b ≡ false → digit_of b ≡ 10
-unfolding digit_of
-no_value b e = rw e
-
-digit_yes : (b : ℕ) → digit_of b ≤ 9 → is_digit b ≡ true
-digit_yes b h = ⊎_elim (λ e. e) (λ e. absurd (never (no_value b e))) (either (is_digit b))
+digit_yes b d e = go (leb 48 b) refl (leb b 57) refl
   where
-    never : digit_of b ≡ 10 → ⊥
-    never e = omega arith
+    go : (s : Bool) → leb 48 b ≡ s → (t : Bool) → leb b 57 ≡ t → (leb 48 b && leb b 57 ≡ true) × (d ≡ b - 48) × (d ≤ 9)
+    go true p true q =
+        let z : Some (b - 48) ≡ Some d = rw (p, q) at e in
+        let same : b - 48 ≡ d = cc in
+        (rw (p, q), sym same, omega (arith, leb-true b 57 q))
+    go true p false q = let z : None ≡ Some d = rw (p, q) at e in absurd (none-some d z)
+    go false p t q = let z : None ≡ Some d = rw p at e in absurd (none-some d z)
 
-digit_no : (b : ℕ) → 9 < digit_of b → is_digit b ≡ false
-unfolding is_digit
-digit_no b h = ⊎_elim (λ e. absurd (never (value_of b e) (leb-true b 57 (and_right (leb 48 b) (leb b 57) e)))) (λ e. e) (either (is_digit b))
+digit_no : (b : ℕ) → digit_of b ≡ None → is_digit b ≡ false
+unfolding digit_of
+digit_no b e = go (is_digit b) refl
   where
-    never : digit_of b ≡ b - 48 → b ≤ 57 → ⊥
-    never e l = omega arith
+    go : (t : Bool) → is_digit b ≡ t → t ≡ false
+    go true p = let z : Some (b - 48) ≡ None = rw p at e in absurd (none-some (b - 48) (sym z))
+    go false p = refl
+
+-- what was said, by what the code carries
+pub said_none : {A : Type 0} (s : Says A) → None ≡ said s → s ≡ Breaks
+unfolding said
+said_none (Is n) e = absurd (none-some n e)
+said_none Breaks e = refl
+
+pub said_some : {A : Type 0} (s : Says A) (n : A) → Some n ≡ said s → s ≡ Is n
+unfolding said
+said_some (Is m) n e = cc
+said_some Breaks n e = absurd (none-some n (sym e))
 
 -- ten to the power of i
 unfoldable pub power : ℕ → ℕ
@@ -109,82 +103,77 @@ and_never true true = refl
 and_never true false = refl
 and_never false b = refl
 
-number_breaks : (w : List ℕ) → all is_digit w ≡ false → Number'.Breaks ≡ number_said (number_of w)
-unfolding number_of number_said
+number_breaks : (w : List ℕ) → all is_digit w ≡ false → None ≡ said (number_of w)
+unfolding number_of said
 number_breaks w e = rw (e, and_never (ltb 0 (length w)) (leb (length w) most_digits))
 
-number_is : (w : List ℕ) (n : ℕ) → 0 < length w → length w ≤ 6 → all is_digit w ≡ true → decimal 0 w ≡ n → Number'.Is n ≡ number_said (number_of w)
-unfolding number_of number_said most_digits
+number_is : (w : List ℕ) (n : ℕ) → 0 < length w → length w ≤ 6 → all is_digit w ≡ true → decimal 0 w ≡ n → Some n ≡ said (number_of w)
+unfolding number_of said most_digits
 number_is w n p l e v = rw (lt-ltb 0 (length w) p, le-leb (length w) 6 l, e, v)
 
-pub number_empty : (w : List ℕ) → length w ≡ 0 → Number'.Breaks ≡ number_said (number_of w)
-unfolding number_of number_said
+pub number_empty : (w : List ℕ) → length w ≡ 0 → None ≡ said (number_of w)
+unfolding number_of said
 number_empty w e = rw (le-ltb 0 (length w) (omega arith))
 
-pub number_long : (w : List ℕ) → 6 < length w → Number'.Breaks ≡ number_said (number_of w)
-unfolding number_of number_said most_digits
+pub number_long : (w : List ℕ) → 6 < length w → None ≡ said (number_of w)
+unfolding number_of said most_digits
 number_long w h = rw (lt-ltb 0 (length w) (omega arith), lt-leb (length w) 6 h)
 
 module _ (w : List ℕ) (i n : ℕ) (a : Along w i n) where
   pub along_small : i < length w → length w ≤ 6 → n < 100000
   along_small h l = omega (arith, power_few i (omega arith), a.small)
 
-  pub along_on : (d : ℕ) → i < length w → d ≡ digit_of (get_or w i 0) → d ≤ 9 → Along w (i + 1) (10 * n + d)
-  along_on d h e l =
-      let is : is_digit (get_or w i 0) ≡ true = digit_yes (get_or w i 0) (omega arith) in
-      let same : d ≡ get_or w i 0 - 48 = e ∙ value_of (get_or w i 0) is in
+  pub along_on : (d : ℕ) → i < length w → Some d ≡ digit_of (get_or w i 0) → Along w (i + 1) (10 * n + d)
+  along_on d h e =
+      let is = digit_yes (get_or w i 0) d (sym e) in
+      let value : 10 * n + (get_or w i 0 - 48) ≡ 10 * n + d = rw is.1 in
       record {
         here = omega arith;
-        small = omega (arith, power_next i, a.small);
-        digits = a.digits ∙ (ap (all is_digit) (rest w i h) ∙ all_cons (get_or w i 0) (drop (i + 1) w) is);
-        value = a.value ∙ (ap (decimal n) (rest w i h) ∙ (decimal_cons n (get_or w i 0) (drop (i + 1) w) ∙ rw same));
+        small = omega (arith, power_next i, a.small, is.2);
+        digits = a.digits ∙ (ap (all is_digit) (rest w i h) ∙ all_cons (get_or w i 0) (drop (i + 1) w) is.0);
+        value = a.value ∙ (ap (decimal n) (rest w i h) ∙ (decimal_cons n (get_or w i 0) (drop (i + 1) w) ∙ ap (λ (k : ℕ). decimal k (drop (i + 1) w)) value));
       }
 
-  pub along_break : i < length w → 9 < digit_of (get_or w i 0) → Number'.Breaks ≡ number_said (number_of w)
-  along_break h l =
-      number_breaks w (a.digits ∙ (ap (all is_digit) (rest w i h) ∙ all_stops (get_or w i 0) (drop (i + 1) w) (digit_no (get_or w i 0) l)))
+  -- a digit is below ten
+  pub along_few : (d : ℕ) → Some d ≡ digit_of (get_or w i 0) → d ≤ 9
+  along_few d e = (digit_yes (get_or w i 0) d (sym e)).2
 
-  pub along_end : length w ≤ i → 0 < length w → length w ≤ 6 → Number'.Is n ≡ number_said (number_of w)
+  pub along_break : i < length w → None ≡ digit_of (get_or w i 0) → None ≡ said (number_of w)
+  along_break h l =
+      number_breaks w (a.digits ∙ (ap (all is_digit) (rest w i h) ∙ all_stops (get_or w i 0) (drop (i + 1) w) (digit_no (get_or w i 0) (sym l))))
+
+  pub along_end : length w ≤ i → 0 < length w → length w ≤ 6 → Some n ≡ said (number_of w)
   along_end h p l =
       number_is w n p l (a.digits ∙ (ap (all is_digit) (drop_of_length-le w {i = i} h) ∙ all_empty))
       (a.value ∙ (ap (decimal n) (drop_of_length-le w {i = i} h) ∙ decimal_empty n))
 
--- what the code carries means what was said
-pub meant_said : (s : Says ℕ) → meant (number_said s) ≡ s
-unfolding meant number_said
-meant_said (Is n) = refl
-meant_said Breaks = refl
+-- the number of some digits is below the next power of ten
+step_most : (n d p x : ℕ) → d ≤ 9 → x < (10 * n + d + 1) * p → x < (n + 1) * (10 * p)
+step_most n d p x h e = omega (arith, e, mul-le-mul_left p h)
 
-module _ (most : ℕ) (sign : ℕ → ℤ) (n : Number.Number) where
-  pub within_breaks : n ≡ Number'.Breaks → Coordinate'.Breaks ≡ coordinate_said (within most sign (meant n))
-  unfolding within meant coordinate_said
-  within_breaks e = rw e
+decimal_most : (n : ℕ) (l : List ℕ) → all is_digit l ≡ true → decimal n l < (n + 1) * power (length l)
+unfolding decimal power all is_digit
+decimal_most n [] a = omega arith
+decimal_most n (b ∷ l) a =
+    let most : b ≤ 57 = leb-true b 57 (and_right (leb 48 b) (leb b 57) (and_left (leb 48 b && leb b 57) (all is_digit l) a)) in
+    step_most n (b - 48) (power (length l)) (decimal n (b ∷ l)) (omega arith)
+    (decimal_most (10 * n + (b - 48)) l (and_right (leb 48 b && leb b 57) (all is_digit l) a))
 
-  pub within_large : (v : ℕ) → n ≡ Number'.Is v → most < v → Coordinate'.Breaks ≡ coordinate_said (within most sign (meant n))
-  unfolding within meant coordinate_said
-  within_large v e h = rw (e, lt-leb v most h)
+power_six : (i : ℕ) → i ≤ 6 → power i ≤ 1000000
+unfolding power all_below
+power_six i h = leb-true (power i) 1000000 (below_at 7 (λ k. leb (power k) 1000000) refl i (omega arith))
 
-  pub within_is : (v : ℕ) (z : ℤ) → n ≡ Number'.Is v → v ≤ most → z ≡ sign v → Coordinate'.Is z ≡ coordinate_said (within most sign (meant n))
-  unfolding within meant coordinate_said
-  within_is v z e h f = rw (e, le-leb v most h, f)
-
-pub coordinate_empty : (w : List ℕ) → length w ≡ 0 → Coordinate'.Breaks ≡ coordinate_said (coordinate_of w)
-unfolding coordinate_of coordinate_said
-coordinate_empty [] e = refl
-coordinate_empty (b ∷ w) e = absurd (never e)
+-- six digits at most
+pub number_small : (w : List ℕ) (n : ℕ) → number_of w ≡ Is n → n < 1000000
+unfolding number_of most_digits
+number_small w n e = go (ltb 0 (length w) && (leb (length w) 6 && all is_digit w)) refl
   where
-    never : suc (length w) ≡ 0 → ⊥
-    never h = omega arith
-
-module _ (n : Number.Number) (r : Coordinate.Coordinate) where
-  pub coordinate_minus : (w : List ℕ) → 0 < length w → get_or w 0 0 ≡ 45 → n ≡ number_said (number_of (take (length w - 1) (drop 1 w)))
-      → r ≡ coordinate_said (within 32768 minus (meant n)) → r ≡ coordinate_said (coordinate_of w)
-  unfolding coordinate_of
-  coordinate_minus [] h e f g = absurd (not-suc-le-zero h)
-  coordinate_minus (b ∷ w) h e f g = g ∙ rw (f, take_all (suc (length w) - 1) w (omega arith), meant_said (number_of w), eq-eqb b 45 e)
-
-  pub coordinate_plus : (w : List ℕ) → 0 < length w → (get_or w 0 0 ≡ 45 → ⊥) → n ≡ number_said (number_of w)
-      → r ≡ coordinate_said (within 32767 pos (meant n)) → r ≡ coordinate_said (coordinate_of w)
-  unfolding coordinate_of
-  coordinate_plus [] h e f g = absurd (not-suc-le-zero h)
-  coordinate_plus (b ∷ w) h e f g = g ∙ rw (f, meant_said (number_of (b ∷ w)), ne_eqb b 45 e)
+    go : (t : Bool) → (ltb 0 (length w) && (leb (length w) 6 && all is_digit w)) ≡ t → n < 1000000
+    go true q =
+        let rest = and_right (ltb 0 (length w)) (leb (length w) 6 && all is_digit w) q in
+        let few : length w ≤ 6 = leb-true (length w) 6 (and_left (leb (length w) 6) (all is_digit w) rest) in
+        let most = decimal_most 0 w (and_right (leb (length w) 6) (all is_digit w) rest) in
+        let same : Is (decimal 0 w) ≡ Is n = rw q at e in
+        let value : decimal 0 w ≡ n = cc in
+        omega (arith, most, power_six (length w) few)
+    go false q = let z : Breaks ≡ Is n = rw q at e in let o : ◌≡◌ {A = ℕ} 0 1 = cc in absurd (omega arith)

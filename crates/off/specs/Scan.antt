@@ -1,5 +1,5 @@
 -- How the code goes along a text: bytes that part words, and bytes that do not.
-use Rattle.std.specs.Prelude.{cond, List, [], ◌∷◌, ℕ, suc, ◌-◌}
+use Rattle.std.specs.Prelude.{cond, List, [], ◌∷◌, ℕ, suc, ◌-◌, Option, Some, None}
 use Rattle.off.specs.Words.{parts}
 use Rattle.off.specs.Numbers.{is_digit}
 
@@ -13,6 +13,6 @@ unfoldable pub run : List ℕ → ℕ
 run [] = 0
 run (b ∷ rest) = cond (parts b) 0 (suc (run rest))
 
--- the value of a digit; 10 for another byte
-unfoldable pub digit_of : ℕ → ℕ
-digit_of b = cond (is_digit b) (b - 48) 10
+-- the value of a digit; none for another byte
+unfoldable pub digit_of : ℕ → Option ℕ
+digit_of b = cond (is_digit b) (Some (b - 48)) None

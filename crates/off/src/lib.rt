@@ -8,14 +8,16 @@
 // written past the end of the output is left out.
 #![tactic(auto)]
 
-ghost use Rattle.std.specs.Prelude.{◌≡◌, [], ◌∷◌, ◌+◌, drop, pos};
+ghost use Rattle.std.specs.Prelude.{◌≡◌, ◌+◌, drop};
 ghost use Rattle.lists.specs.Lists.{same};
 ghost use Rattle.off.specs.Words.{parts, words_from};
-ghost use Rattle.off.specs.Numbers.{number_of, within, minus, coordinate_of, size_of, title};
+ghost use Rattle.off.specs.Numbers.{number_of, coordinate_of, size_of, title};
 ghost use Rattle.off.specs.Scan.{gap, run, digit_of};
 ghost use Rattle.off.specs.Writing.{digits_to, digits_of, coordinate_text};
 ghost use Rattle.frames.specs.Forms.{Appended};
-ghost use Rattle.off.specs.Forms.{next_of, number_said, coordinate_said, meant};
+ghost use Rattle.off.specs.Forms.{next_of, said};
+
+use frames::add;
 
 // A place of a text, from which it is read on.
 #[derive(Clone, Copy)]
@@ -23,198 +25,111 @@ pub struct Cursor {
     pub at: usize,
 }
 
-// The next word: its first place, and the cursor right behind it.
+// Where a word stands: its first place, and the cursor right behind it.
 #[derive(Clone, Copy)]
-pub enum Next {
-    Word(usize, Cursor),
-    End,
-}
-
-// The number that a word says, or that it breaks the form.
-#[derive(Clone, Copy)]
-pub enum Number {
-    Is(u32),
-    Breaks,
-}
-
-// The coordinate that a word says, or that it breaks the form.
-#[derive(Clone, Copy)]
-pub enum Coordinate {
-    Is(i16),
-    Breaks,
+pub struct Span {
+    pub first: usize,
+    pub behind: Cursor,
 }
 
 // A space or a line end.
+#[tactic(auto, unfolding(crate::specs::Words::parts))]
 fn parts_words(b: u8) -> bool
     ensures { result ≡ parts b }
 {
-    if b == b' ' {
-        return true;
-    }
-    b == 0x0a
+    b == b' ' || b == b'\n'
 }
 
 // The first place from `at` on where no byte parts words.
 fn skip(text: &[u8], at: usize) -> usize
     ensures { result ≡ at + gap (drop at text.now) }
 {
-    let mut i = at;
-    while i < text.len() {
+    for i in at..text.len() {
         if !parts_words(text[i]) {
             return i;
         }
-        i += 1;
     }
-    i
+    at.max(text.len())
 }
 
 // The first place from `at` on where a byte parts words.
 fn past(text: &[u8], at: usize) -> usize
     ensures { result ≡ at + run (drop at text.now) }
 {
-    let mut i = at;
-    while i < text.len() {
+    for i in at..text.len() {
         if parts_words(text[i]) {
             return i;
         }
-        i += 1;
     }
-    i
+    at.max(text.len())
 }
 
 // The next word of a text.
-pub fn next_word(text: &[u8], from: Cursor) -> Next
+pub fn next_word(text: &[u8], from: Cursor) -> Option<Span>
     ensures { result ≡ next_of (words_from from.at (drop from.at text.now)) }
 {
     let first = skip(text, from.at);
     if text.len() <= first {
-        return Next::End;
+        return None;
     }
-    Next::Word(
-        first,
-        Cursor {
-            at: past(text, first),
-        },
-    )
+    let behind = Cursor {
+        at: past(text, first),
+    };
+    Some(Span { first, behind })
 }
 
-// The value of a digit; 10 for another byte.
-fn digit(b: u8) -> u32
+// The value of a digit.
+#[tactic(auto, unfolding(crate::specs::Scan::digit_of, crate::specs::Numbers::is_digit))]
+fn digit(b: u8) -> Option<u32>
     ensures { result ≡ digit_of b }
 {
-    if b < b'0' {
-        return 10;
+    match b {
+        b'0'..=b'9' => Some((b - b'0') as u32),
+        _ => None,
     }
-    if b'9' < b {
-        return 10;
-    }
-    (b - b'0') as u32
 }
 
 // The number of a word.
-pub fn read_number(word: &[u8]) -> Number
-    ensures { result ≡ number_said (number_of word.now) }
+pub fn read_number(word: &[u8]) -> Option<u32>
+    ensures { result ≡ said (number_of word.now) }
 {
-    if word.len() == 0 {
-        return Number::Breaks;
-    }
-    if 6 < word.len() {
-        return Number::Breaks;
+    if word.len() == 0 || 6 < word.len() {
+        return None;
     }
     let mut n = 0;
-    let mut i = 0;
-    while i < word.len() {
-        let d = digit(word[i]);
-        if 9 < d {
-            return Number::Breaks;
-        }
-        n = 10 * n + d;
-        i += 1;
+    for b in word {
+        n = 10 * n + digit(*b)?;
     }
-    Number::Is(n)
+    Some(n)
 }
 
 // The size of a face: the number of a word, where it is 3 or 4.
-pub fn read_size(word: &[u8]) -> Number
-    ensures { result ≡ number_said (size_of word.now) }
+pub fn read_size(word: &[u8]) -> Option<u32>
+    ensures { result ≡ said (size_of word.now) }
 {
-    let n = read_number(word);
-    let Number::Is(size) = n else {
-        return Number::Breaks;
-    };
-    if size == 3 {
-        return Number::Is(3);
-    }
-    if size == 4 {
-        return Number::Is(4);
-    }
-    Number::Breaks
+    read_number(word).filter(|size| *size == 3 || *size == 4)
 }
 
 // The word OFF.
 pub fn is_title(word: &[u8]) -> bool
     ensures { result ≡ same word.now title }
 {
-    if word.len() != 3 {
-        return false;
-    }
-    if word[0] != b'O' {
-        return false;
-    }
-    if word[1] != b'F' {
-        return false;
-    }
-    word[2] == b'F'
-}
-
-// A number below zero, where it is in range.
-fn below_zero(n: Number) -> Coordinate
-    ensures { result ≡ coordinate_said (within 32768 minus (meant n)) }
-{
-    let Number::Is(v) = n else {
-        return Coordinate::Breaks;
-    };
-    if 32768 < v {
-        return Coordinate::Breaks;
-    }
-    Coordinate::Is((0 - v as i32) as i16)
-}
-
-// A number from zero on, where it is in range.
-fn from_zero(n: Number) -> Coordinate
-    ensures { result ≡ coordinate_said (within 32767 pos (meant n)) }
-{
-    let Number::Is(v) = n else {
-        return Coordinate::Breaks;
-    };
-    if 32767 < v {
-        return Coordinate::Breaks;
-    }
-    Coordinate::Is(v as i16)
+    word == b"OFF".as_slice()
 }
 
 // The coordinate of a word.
-pub fn read_coordinate(word: &[u8]) -> Coordinate
-    ensures { result ≡ coordinate_said (coordinate_of word.now) }
+pub fn read_coordinate(word: &[u8]) -> Option<i16>
+    ensures { result ≡ said (coordinate_of word.now) }
 {
-    if word.len() == 0 {
-        return Coordinate::Breaks;
+    if word.is_empty() {
+        return None;
     }
     if word[0] == b'-' {
-        return below_zero(read_number(&word[1..]));
+        let n = read_number(&word[1..])?;
+        return i16::try_from(-(n as i32)).ok();
     }
-    from_zero(read_number(word))
-}
-
-// A byte of the output at a place; the place after it. Past the end nothing is written.
-pub fn add(out: &mut [u8], at: usize, b: u8) -> usize
-    ensures { Appended (b ∷ []) out.old at result out.new }
-{
-    if out.len() <= at {
-        return at;
-    }
-    out[at] = b;
-    at + 1
+    let n = read_number(word)?;
+    i16::try_from(n).ok()
 }
 
 // The digits of a number, at most `more` besides the last.

@@ -1,8 +1,8 @@
 -- The word OFF and the counts, and then the whole text.
-use mathlib.Core.Path.{◌≡◌, refl, sym, ap, ◌∙◌}
+use mathlib.Core.Path.{◌≡◌, refl, ◌∙◌}
 use mathlib.Core.List.{List, [], ◌∷◌}
 use Prim.Native.Nat.{ℕ, ◌*◌}
-use native.Mathlib.Omega.{arith}
+use Rattle.std.specs.Prelude.{Option, Some, None, Result, Ok, Err}
 use lib.ListN.{length, get_or, drop}
 use lib.IntN.{ℤ}
 use Rattle.off.specs.Words.{Word, words_from}
@@ -10,66 +10,62 @@ use Rattle.off.specs.Numbers.{number_of, coordinate_of, title_of}
 use Rattle.off.specs.Reading.{Read, Got, Stop, ◌then◌, one, many, faces, Surface, ended, read_words, reading}
 use Rattle.off.specs.Forms.{next_of}
 use Rattle.off.specs.declared.Cursor.{Cursor}
-use Rattle.off.specs.declared.Next.{Next}
-use Rattle.off.specs.declared.Next.TheVariants as Next'
+use Rattle.off.specs.declared.Span.{Span}
 use Rattle.off_form.specs.Took.{left, On, Broke, went}
-use Rattle.off_form.specs.Formed.{head_read, Headed, Stands, Formed}
+use Rattle.off_form.specs.Formed.{head_read, Headed, Formed}
 use Rattle.off_form.specs.declared.Head.{Head}
-use Rattle.off_form.specs.declared.Form.{Form}
-use Rattle.off_form.specs.declared.Begun.{Begun}
-use Rattle.off_form.specs.declared.Begun.TheVariants as Begun'
-use Rattle.off_form.specs.declared.Shape.TheVariants as Shape'
+use Rattle.off_form.specs.declared.Broken.{Broken}
 use Rattle.off_form.proofs.Taking.{here_none, here_word}
 use Rattle.off_form.proofs.Passing.{went_got, went_stop}
 
-headed_stop : (text : List ℕ) (p : ℕ) → head_read (length text) (left text 0) ≡ Stop p → Headed text (Begun'.Stop p)
-headed_stop text p e = record {
-  stops = λ q z. e ∙ ap Stop cc;
-  is = λ h z. let o : ◌≡◌ {A = ℕ} 0 1 = cc in absurd (omega arith);
+headed_stop : (text : List ℕ) (fault : Broken) → head_read (length text) (left text 0) ≡ Stop fault.place → Headed text (Err fault)
+headed_stop text fault e = record {
+  stops = λ other z. let same : fault ≡ other = cc in rw (← same) e;
+  is = λ h z. cc;
 }
 
 headed_is : (text : List ℕ) (h : Head) (edges : ℕ) → head_read (length text) (left text 0) ≡ Got (h.marks ∷ h.cells ∷ edges ∷ []) (left text h.behind.at)
-    → Headed text (Begun'.Is h)
+    → Headed text (Ok h)
 headed_is text h edges e = record {
-  stops = λ q z. let o : ◌≡◌ {A = ℕ} 0 1 = cc in absurd (omega arith);
+  stops = λ q z. cc;
   is = λ k z. let same : h ≡ k = cc in rw (← same) (edges, e);
 }
 
 module _ (text : List ℕ) where
   -- the parts of the head, as far as they were read
-  pub head_title : (p : ℕ) → went (one title_of (length text) (left text 0)) ≡ Broke p → Headed text (Begun'.Stop p)
+  pub head_title : (fault : Broken) → went (one title_of (length text) (left text 0)) ≡ Broke fault.place → Headed text (Err fault)
   unfolding head_read ◌then◌
-  head_title p e = headed_stop text p (rw (went_stop (one title_of (length text) (left text 0)) p e))
+  head_title fault e = headed_stop text fault (rw (went_stop (one title_of (length text) (left text 0)) fault.place e))
 
   module _ (a : Cursor) (e : went (one title_of (length text) (left text 0)) ≡ On (left text a.at)) where
     behind_title : head_read (length text) (left text 0) ≡ many number_of (length text) 3 (left text a.at)
     unfolding head_read ◌then◌
     behind_title = rw (went_got (one title_of (length text) (left text 0)) (left text a.at) e).1
 
-    pub head_marks : (p : ℕ) → one number_of (length text) (left text a.at) ≡ Stop p → Headed text (Begun'.Stop p)
+    pub head_marks : (fault : Broken) → one number_of (length text) (left text a.at) ≡ Stop fault.place → Headed text (Err fault)
     unfolding many ◌then◌
-    head_marks p f = headed_stop text p (behind_title ∙ rw f)
+    head_marks fault f = headed_stop text fault (behind_title ∙ rw f)
 
     module _ (m : ℕ) (b : Cursor) (f : one number_of (length text) (left text a.at) ≡ Got m (left text b.at)) where
-      pub head_cells : (p : ℕ) → one number_of (length text) (left text b.at) ≡ Stop p → Headed text (Begun'.Stop p)
+      pub head_cells : (fault : Broken) → one number_of (length text) (left text b.at) ≡ Stop fault.place → Headed text (Err fault)
       unfolding many ◌then◌
-      head_cells p g = headed_stop text p (behind_title ∙ rw (f, g))
+      head_cells fault g = headed_stop text fault (behind_title ∙ rw (f, g))
 
       module _ (n : ℕ) (c : Cursor) (g : one number_of (length text) (left text b.at) ≡ Got n (left text c.at)) where
-        pub head_edges : (p : ℕ) → one number_of (length text) (left text c.at) ≡ Stop p → Headed text (Begun'.Stop p)
+        pub head_edges : (fault : Broken) → one number_of (length text) (left text c.at) ≡ Stop fault.place → Headed text (Err fault)
         unfolding many ◌then◌
-        head_edges p h = headed_stop text p (behind_title ∙ rw (f, g, h))
+        head_edges fault h = headed_stop text fault (behind_title ∙ rw (f, g, h))
 
         pub head_read_lem : (k : ℕ) (d : Cursor) → one number_of (length text) (left text c.at) ≡ Got k (left text d.at)
-            → Headed text (Begun'.Is (record { marks = m; cells = n; behind = d }))
+            → Headed text (Ok (record { marks = m; cells = n; behind = d }))
         unfolding many ◌then◌
         head_read_lem k d h = headed_is text (record { marks = m; cells = n; behind = d }) k (behind_title ∙ rw (f, g, h))
 
 -- the whole text
-formed_stop : (text : List ℕ) (p : ℕ) → reading text ≡ Stop p → Formed text (Shape'.Stop p)
-formed_stop text p e = record {
-  stops = λ q z. e ∙ ap Stop cc;
-  stands = λ f z. let o : ◌≡◌ {A = ℕ} 0 1 = cc in absurd (omega arith);
+formed_stop : (text : List ℕ) (fault : Broken) → reading text ≡ Stop fault.place → Formed text (Err fault)
+formed_stop text fault e = record {
+  stops = λ other z. let same : fault ≡ other = cc in rw (← same) e;
+  stands = λ f z. cc;
 }
 
 -- behind the counts
@@ -94,27 +90,27 @@ module _ (text : List ℕ) where
   unfolding reading left
   from_start = refl
 
-  module _ (r : Begun) (h : Headed text r) where
-    pub form_head : (p : ℕ) → r ≡ Begun'.Stop p → Formed text (Shape'.Stop p)
+  module _ (r : Result Head Broken) (h : Headed text r) where
+    pub form_head : (fault : Broken) → r ≡ Err fault → Formed text (Err fault)
     unfolding ◌then◌
-    form_head p e = formed_stop text p (from_start ∙ (read_head (length text) (left text 0) ∙ rw (h.stops p e)))
+    form_head fault e = formed_stop text fault (from_start ∙ (read_head (length text) (left text 0) ∙ rw (h.stops fault e)))
 
-    module _ (k : Head) (e : r ≡ Begun'.Is k) where
+    module _ (k : Head) (e : r ≡ Ok k) where
       behind_head : reading text ≡ rest (length text) k.marks k.cells (left text k.behind.at)
       unfolding ◌then◌
       behind_head = from_start ∙ (read_head (length text) (left text 0) ∙ rw (h.is k e).1)
 
-      pub form_vertices : (p : ℕ) → went (many coordinate_of (length text) (3 * k.marks) (left text k.behind.at)) ≡ Broke p → Formed text (Shape'.Stop p)
+      pub form_vertices : (fault : Broken) → went (many coordinate_of (length text) (3 * k.marks) (left text k.behind.at)) ≡ Broke fault.place → Formed text (Err fault)
       unfolding rest ◌then◌
-      form_vertices p f = formed_stop text p (behind_head ∙ rw (went_stop (many coordinate_of (length text) (3 * k.marks) (left text k.behind.at)) p f))
+      form_vertices fault f = formed_stop text fault (behind_head ∙ rw (went_stop (many coordinate_of (length text) (3 * k.marks) (left text k.behind.at)) fault.place f))
 
       module _ (b : Cursor) (f : went (many coordinate_of (length text) (3 * k.marks) (left text k.behind.at)) ≡ On (left text b.at)) where
         positions : (l : List ℤ) × (many coordinate_of (length text) (3 * k.marks) (left text k.behind.at) ≡ Got l (left text b.at))
         positions = went_got (many coordinate_of (length text) (3 * k.marks) (left text k.behind.at)) (left text b.at) f
 
-        pub form_faces : (p : ℕ) → went (faces (length text) k.cells 0 (left text b.at)) ≡ Broke p → Formed text (Shape'.Stop p)
+        pub form_faces : (fault : Broken) → went (faces (length text) k.cells 0 (left text b.at)) ≡ Broke fault.place → Formed text (Err fault)
         unfolding rest ◌then◌
-        form_faces p g = formed_stop text p (behind_head ∙ rw (positions.1, went_stop (faces (length text) k.cells 0 (left text b.at)) p g))
+        form_faces fault g = formed_stop text fault (behind_head ∙ rw (positions.1, went_stop (faces (length text) k.cells 0 (left text b.at)) fault.place g))
 
         module _ (c : Cursor) (g : went (faces (length text) k.cells 0 (left text b.at)) ≡ On (left text c.at)) where
           records : (l : List ℕ) × (faces (length text) k.cells 0 (left text b.at) ≡ Got l (left text c.at))
@@ -127,15 +123,15 @@ module _ (text : List ℕ) where
           unfolding rest ◌then◌
           behind_faces = behind_head ∙ rw (positions.1, records.1)
 
-          module _ (next : Next) (n : next ≡ next_of (words_from c.at (drop c.at text))) where
-            pub form_more : (p : ℕ) (d : Cursor) → next ≡ Next'.Word p d → Formed text (Shape'.Stop p)
+          module _ (next : Option Span) (n : next ≡ next_of (words_from c.at (drop c.at text))) where
+            pub form_more : (more : Span) → next ≡ Some more → Formed text (Err (record { place = more.first }))
             unfolding ended
-            form_more p d z = formed_stop text p (behind_faces ∙ rw (here_word text c.at next n p d z).words)
+            form_more more z = formed_stop text (record { place = more.first }) (behind_faces ∙ rw (here_word text c.at next n more z).words)
 
-            pub form_is : next ≡ Next'.End → Formed text (Shape'.Is (record { marks = k.marks; cells = k.cells; vertices = k.behind; faces = b }))
+            pub form_is : next ≡ None → Formed text (Ok (record { marks = k.marks; cells = k.cells; vertices = k.behind; faces = b }))
             unfolding ended
             form_is z = record {
-              stops = λ q y. let o : ◌≡◌ {A = ℕ} 0 1 = cc in absurd (omega arith);
+              stops = λ q y. cc;
               stands = λ m y.
                   let none : left text c.at ≡ [] = here_none text c.at next n z in
                   let same : record { marks = k.marks; cells = k.cells; vertices = k.behind; faces = b } ≡ m = cc in

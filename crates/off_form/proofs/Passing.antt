@@ -1,46 +1,33 @@
 -- Words passed over one after another.
 use mathlib.Core.Path.{◌≡◌, refl, sym, ap, ◌∙◌}
 use mathlib.Core.List.{List, [], ◌∷◌, ◌++◌}
-use Prim.Native.Nat.{ℕ, zero, suc, ◌+◌, ◌-◌, ◌<◌, ◌≤◌}
+use Prim.Native.Nat.{ℕ, suc, ◌+◌, ◌-◌, ◌<◌, ◌≤◌}
+use native.Mathlib.Numerals.{add-one}
 use native.Mathlib.Omega.{arith}
+use Rattle.std.specs.Prelude.{Result, Ok, Err}
 use lib.ListN.{length}
-use lib.IntN.{ℤ}
 use Rattle.off.specs.Words.{Word}
 use Rattle.off.specs.Numbers.{Says, number_of, size_of}
 use Rattle.off.specs.Reading.{Read, Got, Stop, ◌then◌, one, many, face_code, face, faces}
 use Rattle.off.specs.declared.Cursor.{Cursor}
-use Rattle.off_form.specs.Took.{left, number_took, coordinate_took, Went, On, Broke, went, went_says}
-use Rattle.off_form.specs.declared.TookNumber.{TookNumber}
-use Rattle.off_form.specs.declared.TookNumber.TheVariants as TookNumber'
-use Rattle.off_form.specs.declared.TookCoordinate.{TookCoordinate}
-use Rattle.off_form.specs.declared.TookCoordinate.TheVariants as TookCoordinate'
-use Rattle.off_form.specs.declared.Passed.{Passed}
-use Rattle.off_form.specs.declared.Passed.TheVariants as Passed'
+use Rattle.off_form.specs.Took.{left, took, Went, On, Broke, went, went_says}
+use Rattle.off_form.specs.declared.Broken.{Broken}
 
 -- what the code carries, case by case
 module _ (text : List ℕ) where
-  pub number_stopped : (r : TookNumber) (x : Read ℕ) → number_took text r ≡ x → (p : ℕ) → r ≡ TookNumber'.Stop p → x ≡ Stop p
-  unfolding number_took
-  number_stopped r x e p h = sym e ∙ ap (number_took text) h
+  pub took_stopped : {A : Type 0} (r : Result (A × Cursor) Broken) (x : Read A) → took text r ≡ x → (b : Broken) → r ≡ Err b → x ≡ Stop b.place
+  unfolding took
+  took_stopped r x e b h = sym e ∙ ap (took text) h
 
-  pub number_got : (r : TookNumber) (x : Read ℕ) → number_took text r ≡ x → (n : ℕ) (c : Cursor) → r ≡ TookNumber'.Is n c → x ≡ Got n (left text c.at)
-  unfolding number_took
-  number_got r x e n c h = sym e ∙ ap (number_took text) h
+  pub took_got : {A : Type 0} (r : Result (A × Cursor) Broken) (x : Read A) → took text r ≡ x → (a : A) (c : Cursor) → r ≡ Ok (a, c) → x ≡ Got a (left text c.at)
+  unfolding took
+  took_got r x e a c h = sym e ∙ ap (took text) h
 
-  pub coordinate_stopped : (r : TookCoordinate) (x : Read ℤ) → coordinate_took text r ≡ x → (p : ℕ) → r ≡ TookCoordinate'.Stop p → x ≡ Stop p
-  unfolding coordinate_took
-  coordinate_stopped r x e p h = sym e ∙ ap (coordinate_took text) h
-
-  pub coordinate_got : (r : TookCoordinate) (x : Read ℤ) → coordinate_took text r ≡ x → (z : ℤ) (c : Cursor) → r ≡ TookCoordinate'.Is z c
-      → x ≡ Got z (left text c.at)
-  unfolding coordinate_took
-  coordinate_got r x e z c h = sym e ∙ ap (coordinate_took text) h
-
-  pub passed_stopped : (r : Passed) (x : Went) → went_says text r ≡ x → (p : ℕ) → r ≡ Passed'.Stop p → x ≡ Broke p
+  pub passed_stopped : (r : Result Cursor Broken) (x : Went) → went_says text r ≡ x → (b : Broken) → r ≡ Err b → x ≡ Broke b.place
   unfolding went_says
-  passed_stopped r x e p h = sym e ∙ ap (went_says text) h
+  passed_stopped r x e b h = sym e ∙ ap (went_says text) h
 
-  pub passed_on : (r : Passed) (x : Went) → went_says text r ≡ x → (c : Cursor) → r ≡ Passed'.On c → x ≡ On (left text c.at)
+  pub passed_on : (r : Result Cursor Broken) (x : Went) → went_says text r ≡ x → (c : Cursor) → r ≡ Ok c → x ≡ On (left text c.at)
   unfolding went_says
   passed_on r x e c h = sym e ∙ ap (went_says text) h
 
@@ -74,27 +61,32 @@ pub many_none : {A : Type 0} (f : List ℕ → Says A) (end : ℕ) (ws : List Wo
 unfolding many
 many_none f end ws = refl
 
-less_one : (k : ℕ) → 0 < k → k ≡ suc (k - 1)
-less_one k h = omega arith
+less_one : (n i : ℕ) → i < n → n - i ≡ suc (n - (i + 1))
+less_one n i h = omega arith
 
 -- so many words from a cursor on, each as f reads it: X is where they all go
-module _ {A : Type 0} (f : List ℕ → Says A) (X : Went) (text : List ℕ) (k at : ℕ) (inv : X ≡ went (many f (length text) k (left text at))) where
-  pub many_halts : 0 < k → (p : ℕ) → one f (length text) (left text at) ≡ Stop p → went_says text (Passed'.Stop p) ≡ X
+pub many_start : {A : Type 0} (f : List ℕ → Says A) (text : List ℕ) (n at : ℕ)
+    → went (many f (length text) n (left text at)) ≡ went (many f (length text) (n - 0) (left text at))
+many_start f text n at = let e : n - 0 ≡ n = omega arith in rw e
+
+module _ {A : Type 0} (f : List ℕ → Says A) (X : Went) (text : List ℕ) (n i at : ℕ) (inv : X ≡ went (many f (length text) (n - i) (left text at))) where
+  pub many_halts : i < n → (b : Broken) → one f (length text) (left text at) ≡ Stop b.place → went_says text (Err b) ≡ X
   unfolding went_says
-  many_halts h p e = sym (inv ∙ (rw (less_one k h) (many_broke f (length text) (k - 1) (left text at) p e)))
+  many_halts h b e = sym (inv ∙ (rw (less_one n i h) (many_broke f (length text) (n - (i + 1)) (left text at) b.place e)))
 
-  pub many_goes : 0 < k → (a : A) (g : ℕ) → one f (length text) (left text at) ≡ Got a (left text g) → X ≡ went (many f (length text) (k - 1) (left text g))
-  many_goes h a g e = inv ∙ (ap (λ (n : ℕ). went (many f (length text) n (left text at))) (less_one k h) ∙ many_on f (length text) (k - 1) a (left text at) (left text g) e)
+  pub many_goes : i < n → (a : A) (g : ℕ) → one f (length text) (left text at) ≡ Got a (left text g) → X ≡ went (many f (length text) (n - (i + 1)) (left text g))
+  many_goes h a g e =
+      inv ∙ (ap (λ (k : ℕ). went (many f (length text) k (left text at))) (less_one n i h) ∙ many_on f (length text) (n - (i + 1)) a (left text at) (left text g) e)
 
-  pub many_done : k ≡ 0 → (c : Cursor) → c.at ≡ at → went_says text (Passed'.On c) ≡ X
+  pub many_done : n ≤ i → (c : Cursor) → c.at ≡ at → went_says text (Ok c) ≡ X
   unfolding went_says went many
-  many_done h c e = rw e (sym (inv ∙ rw h))
+  many_done h c e = let none : n - i ≡ 0 = omega arith in rw e (sym (inv ∙ rw none))
 
 -- a face: its size, then its marks
 module _ (text : List ℕ) (at c : ℕ) where
-  pub face_halts : (p : ℕ) → one size_of (length text) (left text at) ≡ Stop p → went_says text (Passed'.Stop p) ≡ went (face (length text) c (left text at))
+  pub face_halts : (b : Broken) → one size_of (length text) (left text at) ≡ Stop b.place → went_says text (Err b) ≡ went (face (length text) c (left text at))
   unfolding went_says went face ◌then◌
-  face_halts p e = rw e
+  face_halts b e = rw e
 
   pub face_goes : (size g : ℕ) → one size_of (length text) (left text at) ≡ Got size (left text g)
       → went (many number_of (length text) size (left text g)) ≡ went (face (length text) c (left text at))
@@ -114,26 +106,23 @@ pub faces_none : (end c : ℕ) (ws : List Word) → faces end 0 c ws ≡ Got [] 
 unfolding faces
 faces_none end c ws = refl
 
-pub faces_start : (text : List ℕ) (n at : ℕ) → (n ≤ n) × (went (faces (length text) n 0 (left text at)) ≡ went (faces (length text) n (n - n) (left text at)))
-faces_start text n at = let e : n - n ≡ 0 = omega arith in (omega arith, rw e)
+pub faces_start : (text : List ℕ) (n at : ℕ) → went (faces (length text) n 0 (left text at)) ≡ went (faces (length text) (n - 0) 0 (left text at))
+faces_start text n at = let e : n - 0 ≡ n = omega arith in rw e
 
-module _ (X : Went) (text : List ℕ) (n k at : ℕ) (inv : (k ≤ n) × (X ≡ went (faces (length text) k (n - k) (left text at)))) where
-  pub faces_halt : 0 < k → (p : ℕ) → ((c : ℕ) → went (face (length text) c (left text at)) ≡ Broke p) → went_says text (Passed'.Stop p) ≡ X
+module _ (X : Went) (text : List ℕ) (n i at : ℕ) (inv : X ≡ went (faces (length text) (n - i) i (left text at))) where
+  pub faces_halt : i < n → (b : Broken) → ((c : ℕ) → went (face (length text) c (left text at)) ≡ Broke b.place) → went_says text (Err b) ≡ X
   unfolding went_says
-  faces_halt h p e =
-      sym (inv.1 ∙ (ap (λ (i : ℕ). went (faces (length text) i (n - k) (left text at))) (less_one k h)
-      ∙ faces_broke (length text) (k - 1) (n - k) (left text at) p (went_stop _ p (e (n - k)))))
+  faces_halt h b e =
+      sym (inv ∙ (ap (λ (k : ℕ). went (faces (length text) k i (left text at))) (less_one n i h)
+      ∙ faces_broke (length text) (n - (i + 1)) i (left text at) b.place (went_stop _ b.place (e i))))
 
-  pub faces_go : 0 < k → (g : ℕ) → ((c : ℕ) → went (face (length text) c (left text at)) ≡ On (left text g))
-      → (k - 1 ≤ n) × (X ≡ went (faces (length text) (k - 1) (n - (k - 1)) (left text g)))
+  pub faces_go : i < n → (g : ℕ) → ((c : ℕ) → went (face (length text) c (left text at)) ≡ On (left text g))
+      → X ≡ went (faces (length text) (n - (i + 1)) (i + 1) (left text g))
   faces_go h g e =
-      let got = went_got _ (left text g) (e (n - k)) in
-      let next : n - (k - 1) ≡ suc (n - k) = omega (arith, inv.0) in (
-        omega (arith, inv.0),
-        rw next (inv.1 ∙ (ap (λ (i : ℕ). went (faces (length text) i (n - k) (left text at))) (less_one k h)
-            ∙ faces_on (length text) (k - 1) (n - k) got.0 (left text at) (left text g) got.1)),
-      )
+      let got = went_got _ (left text g) (e i) in
+      rw (add-one i) (inv ∙ (ap (λ (k : ℕ). went (faces (length text) k i (left text at))) (less_one n i h ∙ ap (λ (k : ℕ). suc (n - k)) (add-one i))
+      ∙ faces_on (length text) (n - suc i) i got.0 (left text at) (left text g) got.1))
 
-  pub faces_done : k ≡ 0 → (c : Cursor) → c.at ≡ at → went_says text (Passed'.On c) ≡ X
+  pub faces_done : n ≤ i → (c : Cursor) → c.at ≡ at → went_says text (Ok c) ≡ X
   unfolding went_says went faces
-  faces_done h c e = rw e (sym (inv.1 ∙ rw h))
+  faces_done h c e = let none : n - i ≡ 0 = omega arith in rw e (sym (inv ∙ rw none))

@@ -50,6 +50,15 @@ module _ (n m more bytes : ℕ) (c : Counting n m more bytes) where
   pub counting_done : m < 10 → bytes ≡ length (digits_of n)
   counting_done h = omega (arith, c.sum, one_digit more m h)
 
+-- the same, where so many bytes are counted of six at most
+pub counting_on : (n m bytes : ℕ) → Counting n m (6 - bytes) bytes → 10 ≤ m → bytes < 6 → Counting n (m / 10) (6 - (bytes + 1)) (bytes + 1)
+counting_on n m bytes c h k =
+    let less : 6 - (bytes + 1) ≡ 6 - bytes - 1 = omega arith in
+    rw less (counting_next n m (6 - bytes) bytes c h (omega arith))
+
+pub counting_end : (n m bytes : ℕ) → Counting n m (6 - bytes) bytes → bytes ≡ 6 → 6 ≡ length (digits_of n)
+counting_end n m bytes c e = sym e ∙ counting_full n m (6 - bytes) bytes c (omega arith)
+
 number_few : (n : ℕ) → length (digits_of n) ≤ 6
 unfolding digits_of
 number_few n = (digits_count 5 n).1

@@ -1,16 +1,16 @@
 -- Lines appended, word by word.
-use mathlib.Core.Path.{◌≡◌, refl, sym, ap, ◌∙◌}
+use mathlib.Core.Path.{◌≡◌}
 use mathlib.Core.List.{List, [], ◌∷◌, ◌++◌}
-use Prim.Native.Nat.{ℕ, suc, ◌+◌, ◌*◌, ◌<◌, ◌≤◌}
+use Prim.Native.Nat.{ℕ, ◌+◌, ◌*◌, ◌≤◌}
 use native.Mathlib.Numerals.{add-one}
 use native.Mathlib.Omega.{arith}
-use lib.ListN.{length, get_or}
+use lib.ListN.{get_or}
 use lib.IntN.{ℤ, pos}
 use mir.Syntax.{w16}
 use mir.Val.{SFits, to_z, of_z}
 use mir.ValLaws.{to_z-of_z}
 use Rattle.frames.specs.Forms.{Appended}
-use Rattle.frames.proofs.Append.{append_none, append_more, append_same}
+use Rattle.frames.proofs.Append.{append_none, append_more}
 use Rattle.off.specs.Numbers.{title}
 use Rattle.off.specs.Writing.{digits_of, coordinate_text, behind, line, counts_line, vertex_line, vertex_lines}
 

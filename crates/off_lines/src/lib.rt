@@ -11,25 +11,22 @@ ghost use Rattle.frames.specs.Forms.{Appended};
 ghost use Rattle.off.specs.Numbers.{title};
 ghost use Rattle.off.specs.Writing.{digits_of, coordinate_text, line, counts_line, vertex_line, vertex_lines};
 
+use frames::add;
 use metres::metre;
-use off::{add, write_coordinate, write_number};
+use off::{write_coordinate, write_number};
 
 // The bytes of a number's text.
 pub fn number_length(n: u32) -> usize
     ensures { result ≡ length (digits_of n) }
 {
-    let mut m = n;
-    let mut more: u32 = 5;
-    let mut bytes: usize = 1;
-    while 10 <= m {
-        if more == 0 {
+    let mut rest = n;
+    for bytes in 1..6 {
+        if rest < 10 {
             return bytes;
         }
-        m = m / 10;
-        more -= 1;
-        bytes += 1;
+        rest /= 10;
     }
-    bytes
+    6
 }
 
 // The bytes of a coordinate's text.
@@ -97,10 +94,8 @@ pub fn write_vertices(out: &mut [u8], at: usize, positions: &[i16], n: u32) -> u
     ensures { Appended (vertex_lines n positions.now) out.old at result out.new }
 {
     let mut next = at;
-    let mut v: u32 = 0;
-    while v < n {
+    for v in 0..n {
         next = write_vertex(out, next, positions, v);
-        v += 1;
     }
     next
 }
@@ -121,10 +116,8 @@ pub fn vertices_length(positions: &[i16], n: u32) -> usize
     ensures { result ≡ length (vertex_lines n positions.now) }
 {
     let mut bytes: usize = 0;
-    let mut v: u32 = 0;
-    while v < n {
+    for v in 0..n {
         bytes += vertex_length(positions, v);
-        v += 1;
     }
     bytes
 }

@@ -50,10 +50,8 @@ pub fn put_sibling(w: &mut [u32], caps: Caps, h: Half, x: Half, way: Way)
 fn put_near(w: &mut [u32], caps: Caps, c: Cell, marks: &[u32])
     ensures { Fills Near caps c.0 marks.now w.old near_marks w.new }
 {
-    let mut k: u32 = 0;
-    while k < NEAR_MARKS {
+    for k in 0..NEAR_MARKS {
         write_near(w, caps, c, k, word(marks, k as usize));
-        k += 1;
     }
 }
 
@@ -64,10 +62,8 @@ fn put_far(w: &mut [u32], caps: Caps, c: Cell, marks: &[u32], far: bool)
     if !far {
         return;
     }
-    let mut k: u32 = 0;
-    while k < MOST_MARKS {
+    for k in 0..MOST_MARKS {
         write_far(w, caps, c, k, word(marks, k as usize));
-        k += 1;
     }
 }
 

@@ -14,15 +14,13 @@ use Rattle.numbers.specs.declared.Caps.{Caps}
 use Rattle.words.specs.Words.{Only}
 use Rattle.words.proofs.Frame.{only_none}
 use Rattle.store.specs.Open.{room_in, caps_in, is_mesh, opened}
-use Rattle.store.specs.declared.Opened.TheVariants.{Mesh, Nothing}
+use Rattle.std.specs.Prelude.{Result, ⊤, Ok, Err}
 use Rattle.map.specs.Cells.{Map}
 use Rattle.map.specs.Answers.{Answer, ◌when◌, answer}
 use Rattle.map.specs.Morning.{morning}
 use Rattle.map.specs.Says.{number_of, given, refused, verdict_says}
 use Rattle.map.specs.declared.Refusal.{Refusal}
 use Rattle.map.specs.declared.Refusal.TheVariants.{NotMesh, MemoryShort}
-use Rattle.map.specs.declared.Verdict.{Verdict}
-use Rattle.map.specs.declared.Verdict.TheVariants as Verdict'
 use Rattle.map.proofs.Refusals.{number_some}
 use Rattle.picture.specs.Picture.{Wf}
 use Rattle.checks.proofs.Opens.{nothing_opened, mesh_opened, wf_mesh, wf_caps}
@@ -32,8 +30,8 @@ use Rattle.wanted.specs.Records.{refused_with}
 use Rattle.wanted.specs.Plans.{plan_checks, plan_verdict, plan_answer}
 use Rattle.plan_check.specs.Checked.{planned_says, PlanChecked}
 use Rattle.plan_check.specs.Steps.{Tried}
-use Rattle.plan_check.specs.declared.Planned.{Planned}
-use Rattle.plan_check.specs.declared.Planned.TheVariants.{Yes, Wrong, Refused}
+use Rattle.plan_check.specs.declared.Flaw.TheVariants.{Refused}
+use Rattle.plan_check.specs.declared.Flaw.{Flaw}
 
 -- the checks before 24, by what fails
 module _ (m : Map) (words : ℕ) (edits wanted : List ℕ) where
@@ -59,7 +57,7 @@ module _ (m : Map) (words : ℕ) (edits wanted : List ℕ) where
   plan_tried e = rw e
 
 module _ (mesh edits wanted second : List ℕ) where
-  pub check_none : Nothing ≡ opened mesh → PlanChecked mesh edits wanted second (Refused NotMesh) second
+  pub check_none : (Err NotMesh) ≡ opened mesh → PlanChecked mesh edits wanted second (Err (Refused NotMesh)) second
   check_none e = record {
     refused = λ n. refl;
     kept = λ why q. refl;
@@ -67,13 +65,13 @@ module _ (mesh edits wanted second : List ℕ) where
     answers = λ m wf. absurd (clash (wf_mesh mesh m wf) (nothing_opened mesh e));
   }
 
-  module _ (caps : Caps) (opens : Mesh caps ≡ opened mesh) (k : ℕ) (ek : k ≡ room caps.marks caps.cells) where
+  module _ (caps : Caps) (opens : Ok caps ≡ opened mesh) (k : ℕ) (ek : k ≡ room caps.marks caps.cells) where
     rooms : (m : Map) → Wf mesh m → room m.caps.marks m.caps.cells ≡ k
     rooms m wf = ap (λ (c : Caps). room c.marks c.cells) (wf_caps mesh m wf caps opens) ∙ sym ek
 
     -- refused with a number before 24
     check_refused : (why : Refusal) → ((m : Map) → Wf mesh m → answer (plan_checks m (length second) wanted) [] ≡ refused_with (number_of why))
-        → PlanChecked mesh edits wanted second (Refused why) second
+        → PlanChecked mesh edits wanted second (Err (Refused why)) second
     unfolding planned_says refused
     check_refused why says = record {
       refused = λ n. absurd (clash (mesh_opened mesh caps opens).0 n);
@@ -88,18 +86,18 @@ module _ (mesh edits wanted second : List ℕ) where
         some : number_of why ≡ 0 → ⊥
         some z = omega (arith, number_some why)
 
-    pub check_short : length second < k → PlanChecked mesh edits wanted second (Refused MemoryShort) second
+    pub check_short : length second < k → PlanChecked mesh edits wanted second (Err (Refused MemoryShort)) second
     check_short h = check_refused MemoryShort (λ m wf. plan_short m (length second) edits wanted (omega (arith, rooms m wf)))
 
-    module _ (fits : k ≤ length second) (v : Verdict) (says : verdict_says v ≡ refused_with (wanted_of wanted).refusal) where
-      pub check_list : (why : Refusal) → v ≡ Verdict'.Refused why → PlanChecked mesh edits wanted second (Refused why) second
+    module _ (fits : k ≤ length second) (v : Result ⊤ Refusal) (says : verdict_says v ≡ refused_with (wanted_of wanted).refusal) where
+      pub check_list : (why : Refusal) → v ≡ Err why → PlanChecked mesh edits wanted second (Err (Refused why)) second
       unfolding verdict_says refused
       check_list why e =
           check_refused why (λ m wf.
           plan_list m (length second) edits wanted (omega (arith, rooms m wf)) (number_of why)
           (sym (ap (λ (a : Answer). a.refusal) (ap verdict_says (sym e) ∙ says))) (λ z. omega (arith, number_some why)))
 
-      pub check_tried : v ≡ Verdict'.Accepted → (r : Planned) (x : List ℕ) → Tried (take k second) caps mesh edits wanted r x
+      pub check_tried : v ≡ (Ok tt) → (r : Result ⊤ Flaw) (x : List ℕ) → Tried (take k second) caps mesh edits wanted r x
           → PlanChecked mesh edits wanted second r (x ++ drop k second)
       unfolding verdict_says given caps_in
       check_tried e r x did = record {

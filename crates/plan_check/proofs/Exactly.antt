@@ -23,16 +23,17 @@ use Rattle.wanted.specs.Wanted.{wanted_of, as_wanted}
 use Rattle.wanted.specs.Plans.{plan_right, plan_verdict, plan_answer}
 use Rattle.wanted.proofs.Exact.{wanted_shuffled, shuffled_wanted}
 use Rattle.plan_check.specs.Checked.{planned_says, PlanChecked}
-use Rattle.plan_check.specs.declared.Planned.{Planned}
-use Rattle.plan_check.specs.declared.Planned.TheVariants.{Yes, Wrong, Refused}
+use Rattle.plan_check.specs.declared.Flaw.TheVariants.{Wrong, Refused}
+use Rattle.plan_check.specs.declared.Flaw.{Flaw}
+use Rattle.std.specs.Prelude.{Result, ⊤, Ok, Err}
 use Rattle.plan_check.proofs.Checking.{plan_passes, plan_tried}
 
 -- yes is the only answer without a number
-only_yes : (r : Planned) → (planned_says r).refusal ≡ 0 → r ≡ Yes
+only_yes : (r : Result ⊤ Flaw) → (planned_says r).refusal ≡ 0 → r ≡ (Ok tt)
 unfolding planned_says refused
-only_yes Yes e = refl
-only_yes (Wrong n) e = absurd (omega arith)
-only_yes (Refused why) e = absurd (omega (arith, number_some why))
+only_yes (Ok tt) e = refl
+only_yes (Err (Wrong n)) e = absurd (omega arith)
+only_yes (Err (Refused why)) e = absurd (omega (arith, number_some why))
 
 -- the answer of a plan that is right, and of one that is not
 right_says : (m : Map) (edits wanted : List ℕ) → plan_right m edits wanted ≡ true → (plan_verdict m edits wanted).refusal ≡ 0
@@ -53,7 +54,7 @@ pub record Right (m : Map) (edits wanted : List ℕ) : Type 0 where
   pub cells : Shuffled (live_cells (morning m edits).map) (wanted_of wanted).cells
 
 -- a wanted list that is whole, and second memory with room
-module _ {mesh edits wanted second second' : List ℕ} {r : Planned} (did : PlanChecked mesh edits wanted second r second') (m : Map) (wf : Wf mesh m)
+module _ {mesh edits wanted second second' : List ℕ} {r : Result ⊤ Flaw} (did : PlanChecked mesh edits wanted second r second') (m : Map) (wf : Wf mesh m)
     (fits : room m.caps.marks m.caps.cells ≤ length second) (whole : (wanted_of wanted).refusal ≡ 0) where
   says : planned_says r ≡ plan_verdict m edits wanted
   says = (did.answers m wf).0 ∙ plan_tried m (length second) edits wanted (plan_passes m (length second) edits wanted fits whole)
@@ -62,7 +63,7 @@ module _ {mesh edits wanted second second' : List ℕ} {r : Planned} (did : Plan
   pub check_leaves : Wf second' (morning m edits).map
   check_leaves = (did.answers m wf).1 (ap (λ (a : Answer). a.refusal) (plan_passes m (length second) edits wanted fits whole))
 
-  pub yes_right : r ≡ Yes → Right m edits wanted
+  pub yes_right : r ≡ (Ok tt) → Right m edits wanted
   unfolding plan_right planned_says given
   yes_right e =
       let right : plan_right m edits wanted ≡ true = says_right m edits wanted (sym (ap (λ (a : Answer). a.refusal) (ap planned_says (sym e) ∙ says))) in
@@ -71,7 +72,7 @@ module _ {mesh edits wanted second second' : List ℕ} {r : Planned} (did : Plan
         cells = wanted_shuffled (morning m edits).map check_leaves.sound check_leaves.two _ (and_right (eqb (morning m edits).refusal 0) _ right);
       }
 
-  pub right_yes : Right m edits wanted → r ≡ Yes
+  pub right_yes : Right m edits wanted → r ≡ (Ok tt)
   unfolding plan_right
   right_yes right =
       only_yes r (ap (λ (a : Answer). a.refusal) says
@@ -79,11 +80,11 @@ module _ {mesh edits wanted second second' : List ℕ} {r : Planned} (did : Plan
       (shuffled_wanted (morning m edits).map check_leaves.sound check_leaves.two _ right.cells)))
 
   -- "24 with the place (from 0) of the first wrong edit, or with the length of the list if only the end differs"
-  pub wrong_place : (place : ℕ) → r ≡ Wrong place → place ≡ (morning m edits).made
+  pub wrong_place : (place : ℕ) → r ≡ Err (Wrong place) → place ≡ (morning m edits).made
   unfolding plan_verdict planned_says given first
   wrong_place place e = go (plan_right m edits wanted) (ap planned_says (sym e) ∙ says)
     where
-      go : (b : Bool) → planned_says (Wrong place) ≡ cond b (given []) (record { refusal = 24; values = (morning m edits).made ∷ [] })
+      go : (b : Bool) → planned_says (Err (Wrong place)) ≡ cond b (given []) (record { refusal = 24; values = (morning m edits).made ∷ [] })
           → place ≡ (morning m edits).made
       go true z = absurd (omega (arith, ap (λ (a : Answer). a.refusal) z))
       go false z = ap (λ (a : Answer). first 0 a.values) z

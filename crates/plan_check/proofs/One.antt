@@ -21,8 +21,9 @@ use Rattle.wanted.specs.Wanted.{wanted_of}
 use Rattle.wanted.specs.Records.{refused_with}
 use Rattle.wanted.specs.Plans.{plan_checks}
 use Rattle.plan_check.specs.Checked.{planned_says, PlanChecked}
-use Rattle.plan_check.specs.declared.Planned.{Planned}
-use Rattle.plan_check.specs.declared.Planned.TheVariants.{Yes, Wrong, Refused}
+use Rattle.plan_check.specs.declared.Flaw.TheVariants.{Wrong, Refused}
+use Rattle.plan_check.specs.declared.Flaw.{Flaw}
+use Rattle.std.specs.Prelude.{Result, ⊤, Ok, Err}
 use Rattle.plan_check.proofs.Says.{planned_one}
 use Rattle.plan_check.proofs.Checking.{plan_refused}
 
@@ -40,21 +41,21 @@ checks_values m words wanted = go (ltb words (room m.caps.marks m.caps.cells)) (
     go false false = refl
 
 module _ {mesh edits wanted second : List ℕ} (m : Map) (wf : Wf mesh m) where
-  inside : {r : Planned} {a : List ℕ} → PlanChecked mesh edits wanted second r a → Only (λ i. i < room_of (morning m edits).map) second a
+  inside : {r : Result ⊤ Flaw} {a : List ℕ} → PlanChecked mesh edits wanted second r a → Only (λ i. i < room_of (morning m edits).map) second a
   inside did = rw (morning_caps m edits, ← (head_room mesh m wf)) did.inside
 
   -- refused before 24: nothing changes
-  unchanged : {r : Planned} {a : List ℕ} → PlanChecked mesh edits wanted second r a → ((answer (plan_checks m (length second) wanted) []).refusal ≡ 0 → ⊥) → a ≡ second
+  unchanged : {r : Result ⊤ Flaw} {a : List ℕ} → PlanChecked mesh edits wanted second r a → ((answer (plan_checks m (length second) wanted) []).refusal ≡ 0 → ⊥) → a ≡ second
   unfolding planned_says given refused
   unchanged {r} {a} did some =
       go r did.kept ((did.answers m wf).0 ∙ plan_refused m (length second) edits wanted _ some (checks_values m (length second) wanted))
     where
-      go : (x : Planned) → ((why : _) → x ≡ Refused why → a ≡ second) → planned_says x ≡ refused_with (answer (plan_checks m (length second) wanted) []).refusal → a ≡ second
-      go Yes kept e = absurd (some (sym (ap (λ (b : Answer). b.refusal) e)))
-      go (Wrong n) kept e = absurd (omega (arith, ap (λ (b : Answer). length b.values) e))
-      go (Refused why) kept e = kept why refl
+      go : (x : Result ⊤ Flaw) → ((why : _) → x ≡ Err (Refused why) → a ≡ second) → planned_says x ≡ refused_with (answer (plan_checks m (length second) wanted) []).refusal → a ≡ second
+      go (Ok tt) kept e = absurd (some (sym (ap (λ (b : Answer). b.refusal) e)))
+      go (Err (Wrong n)) kept e = absurd (omega (arith, ap (λ (b : Answer). length b.values) e))
+      go (Err (Refused why)) kept e = kept why refl
 
-  pub plan_one : {r s : Planned} {a b : List ℕ} → PlanChecked mesh edits wanted second r a → PlanChecked mesh edits wanted second s b → (r ≡ s) × (a ≡ b)
+  pub plan_one : {r s : Result ⊤ Flaw} {a b : List ℕ} → PlanChecked mesh edits wanted second r a → PlanChecked mesh edits wanted second s b → (r ≡ s) × (a ≡ b)
   plan_one {r} {s} {a} {b} x y =
       (planned_one r s ((x.answers m wf).0 ∙ sym (y.answers m wf).0), go (ℕ_discrete (answer (plan_checks m (length second) wanted) []).refusal 0))
     where

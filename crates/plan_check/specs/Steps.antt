@@ -1,5 +1,5 @@
 -- What the steps of the check promise, on any memory.
-use Rattle.std.specs.Prelude.{◌≡◌, Bool, true, false, not, ◌&&◌, ◌||◌, List, ℕ, ◌≤◌, eqb, length}
+use Rattle.std.specs.Prelude.{◌≡◌, Bool, true, false, not, ◌&&◌, ◌||◌, List, ℕ, ◌≤◌, eqb, length, Result, ⊤, Err}
 use Rattle.lists.specs.Lists.{has, all, repeats}
 use Rattle.numbers.specs.Room.{room}
 use Rattle.numbers.specs.declared.Caps.{Caps}
@@ -13,8 +13,8 @@ use Rattle.cell_set.specs.CellSet.{in_set}
 use Rattle.wanted.specs.Wanted.{wanted_of, as_wanted}
 use Rattle.wanted.specs.Records.{stands_in}
 use Rattle.wanted.specs.Plans.{plan_verdict}
-use Rattle.plan_check.specs.declared.Planned.{Planned}
-use Rattle.plan_check.specs.declared.Planned.TheVariants as Planned'
+use Rattle.plan_check.specs.declared.Flaw.TheVariants.{Refused}
+use Rattle.plan_check.specs.declared.Flaw.{Flaw}
 use Rattle.plan_check.specs.Checked.{planned_says}
 
 -- each cell of a list stands in memory, and none is in it twice
@@ -36,8 +36,8 @@ pub record AsWanted (w : List ℕ) (caps : Caps) (records : List ℕ) (r : Bool)
   pub says : (wanted_of records).refusal ≡ 0 → (m : Map) → m.caps ≡ caps → Wf w m → r ≡ as_wanted m (wanted_of records).cells
 
 -- the plan tried in memory as long as the room, from the words of the mesh
-pub record Tried (w : List ℕ) (caps : Caps) (mesh edits wanted : List ℕ) (r : Planned) (w' : List ℕ) : Type 0 where
+pub record Tried (w : List ℕ) (caps : Caps) (mesh edits wanted : List ℕ) (r : Result ⊤ Flaw) (w' : List ℕ) : Type 0 where
   pub size : length w' ≡ length w
-  pub decided : (why : Refusal) → r ≡ Planned'.Refused why → ⊥
+  pub decided : (why : Refusal) → r ≡ Err (Refused why) → ⊥
   pub answers : (wanted_of wanted).refusal ≡ 0 → (m : Map) → m.caps ≡ caps → Wf mesh m → length w ≡ room m.caps.marks m.caps.cells
       → (planned_says r ≡ plan_verdict m edits wanted) × Wf w' (morning m edits).map

@@ -10,24 +10,32 @@
 ghost use Rattle.std.specs.Prelude.{◌≡◌};
 ghost use Rattle.lists.specs.Lists.{every};
 ghost use Rattle.plan_check.specs.Checked.{PlanChecked};
+ghost use Rattle.plan_check.specs.declared.Flaw.TheVariants.{Refused};
 ghost use Rattle.plan_check.specs.Steps.{Sifted, dead_or, AsWanted, Tried};
 
 use build::record_end;
 use cell_set::{has_cell, put_cell};
 use edits::make_edits;
 use journal_store::copy_words;
-use map::{Edits, Refusal, Verdict};
+use map::Refusal;
 use numbers::{Caps, Cell, PAST_CELLS};
-use store::{Opened, code_of, open, room_of};
+use store::{code_of, open, room_of};
 use wanted::{read_wanted, record_stands};
 use words::word;
 
-// What the check says of a plan: yes, or the place of its first wrong edit, or why it was not tried.
+// Why a plan does not pass: the place of its first wrong edit, or why it was not tried.
 #[derive(Clone, Copy)]
-pub enum Planned {
-    Yes,
+pub enum Flaw {
     Wrong(usize),
     Refused(Refusal),
+}
+
+impl From<Refusal> for Flaw {
+    ghost from_gives = { λ why flaw. flaw ≡ Refused why };
+
+    fn from(why: Refusal) -> Flaw {
+        Flaw::Refused(why)
+    }
 }
 
 // Each record's cell stands in the mesh as it is wanted, and none twice; the set is filled with them.
@@ -35,6 +43,7 @@ fn each_stands(w: &[u32], caps: Caps, records: &[u32], seen: &mut [u8]) -> bool
     ensures { Sifted w.now caps records.now seen.old result seen.new }
 {
     let mut at: usize = 0;
+    // a walk from record to record, not a count: each says where the next begins
     while at < records.len() {
         if !record_stands(w, caps, records, at) {
             return false;
@@ -63,12 +72,10 @@ fn dead_or(w: &[u32], caps: Caps, seen: &[u8], c: u32) -> bool
 fn none_else(w: &[u32], caps: Caps, seen: &[u8]) -> bool
     ensures { result ≡ every caps.cells (dead_or w.now caps seen.now) }
 {
-    let mut c: u32 = 0;
-    while c < caps.cells {
+    for c in 0..caps.cells {
         if !dead_or(w, caps, seen, c) {
             return false;
         }
-        c += 1;
     }
     true
 }
@@ -85,34 +92,41 @@ fn as_wanted(w: &[u32], caps: Caps, records: &[u32]) -> bool
 }
 
 // The plan tried in memory as long as the room.
-fn try_plan(w: &mut [u32], caps: Caps, mesh: &[u32], edits: &[u32], wanted: &[u32]) -> Planned
+fn try_plan(
+    w: &mut [u32],
+    caps: Caps,
+    mesh: &[u32],
+    edits: &[u32],
+    wanted: &[u32],
+) -> Result<(), Flaw>
     ensures { Tried w.old caps mesh.now edits.now wanted.now result w.new }
 {
     let room = w.len();
     copy_words(mesh, w, 0, room);
     let all = match make_edits(w, edits) {
-        Edits::Stopped(first, _) => return Planned::Wrong(first),
-        Edits::Made(all) => all,
+        Err(stopped) => return Err(Flaw::Wrong(stopped.made)),
+        Ok(all) => all,
     };
     if as_wanted(w, caps, wanted) {
-        return Planned::Yes;
+        return Ok(());
     }
-    Planned::Wrong(all)
+    Err(Flaw::Wrong(all))
 }
 
 // Whether a plan takes today's map to the wanted cells, tried in second memory.
-pub fn plan_check(mesh: &[u32], edits: &[u32], wanted: &[u32], second: &mut [u32]) -> Planned
+pub fn plan_check(
+    mesh: &[u32],
+    edits: &[u32],
+    wanted: &[u32],
+    second: &mut [u32],
+) -> Result<(), Flaw>
     ensures { PlanChecked mesh.now edits.now wanted.now second.old result second.new }
 {
-    let Opened::Mesh(caps) = open(mesh) else {
-        return Planned::Refused(Refusal::NotMesh);
-    };
+    let caps = open(mesh)?;
     let room = room_of(caps);
     if second.len() < room {
-        return Planned::Refused(Refusal::MemoryShort);
+        return Err(Flaw::Refused(Refusal::MemoryShort));
     }
-    if let Verdict::Refused(why) = read_wanted(wanted) {
-        return Planned::Refused(why);
-    }
+    read_wanted(wanted)?;
     try_plan(&mut second[..room], caps, mesh, edits, wanted)
 }

@@ -14,14 +14,12 @@ use Rattle.numbers.specs.Sizes.{past_cells}
 use Rattle.numbers.specs.declared.Caps.{Caps}
 use Rattle.store.specs.Open.{is_mesh, opened}
 use Rattle.store.specs.Slots.{code_in}
-use Rattle.store.specs.declared.Opened.TheVariants as Opened'
+use Rattle.std.specs.Prelude.{Result, ⊤, Ok, Err}
 use Rattle.map.specs.Cells.{Live, Map, live}
 use Rattle.map.specs.Answers.{Answer, ◌when◌, answer, list_answer}
 use Rattle.map.specs.Says.{number_of, given, refused, verdict_says}
 use Rattle.map.specs.declared.Refusal.{Refusal}
 use Rattle.map.specs.declared.Refusal.TheVariants.{NotMesh, OutputShort}
-use Rattle.map.specs.declared.Verdict.{Verdict}
-use Rattle.map.specs.declared.Verdict.TheVariants as Verdict'
 use Rattle.map.proofs.Refusals.{number_some}
 use Rattle.picture.specs.Picture.{Wf}
 use Rattle.checks.proofs.Opens.{nothing_opened, mesh_opened, wf_mesh, wf_caps}
@@ -37,8 +35,6 @@ use Rattle.wanted.proofs.Standing.{stands_in_lem}
 use Rattle.planner.specs.Plan.{wanted_as, unwanted, missing, plan_of, plan_words}
 use Rattle.planner.specs.Proposed.{planner_checks, planner_answer, proposal_says, Proposed}
 use Rattle.planner.specs.InMemory.{removal_words, insertion_words, marked_in, goes_in, Marked, Inserted, Wrote}
-use Rattle.planner.specs.declared.Proposal.{Proposal}
-use Rattle.planner.specs.declared.Proposal.TheVariants.{Words, Refused}
 use Rattle.planner.proofs.Marking.{marked_in_lem}
 use Rattle.planner.proofs.Removing.{words_then, removals_size}
 
@@ -58,7 +54,7 @@ or_none false b e = e
 
 module _ (w wanted o : List ℕ) where
   -- no mesh
-  pub plan_none : Opened'.Nothing ≡ opened w → Proposed w wanted o (Refused NotMesh) o
+  pub plan_none : (Err NotMesh) ≡ opened w → Proposed w wanted o (Err NotMesh) o
   plan_none e = record {
     refused = λ n. refl;
     kept = λ why q. refl;
@@ -66,9 +62,9 @@ module _ (w wanted o : List ℕ) where
     answers = λ m wf. absurd (clash (wf_mesh w m wf) (nothing_opened w e));
   }
 
-  module _ (caps : Caps) (e : Opened'.Mesh caps ≡ opened w) (v : Verdict) (says : verdict_says v ≡ refused_with (wanted_of wanted).refusal) where
+  module _ (caps : Caps) (e : Ok caps ≡ opened w) (v : Result ⊤ Refusal) (says : verdict_says v ≡ refused_with (wanted_of wanted).refusal) where
     -- 7 or 6
-    pub plan_refused : (why : Refusal) → v ≡ Verdict'.Refused why → Proposed w wanted o (Refused why) o
+    pub plan_refused : (why : Refusal) → v ≡ Err why → Proposed w wanted o (Err why) o
     unfolding planner_answer planner_checks list_answer ◌when◌ answer proposal_says verdict_says refused listed
     plan_refused why z =
         let number : (wanted_of wanted).refusal ≡ number_of why = sym (ap (λ (a : Answer). a.refusal) (ap verdict_says (sym z) ∙ says)) in
@@ -80,7 +76,7 @@ module _ (w wanted o : List ℕ) where
           answers = λ m wf. rw (number, some) (refl, rw some);
         }
 
-    module _ (ok : v ≡ Verdict'.Accepted) where
+    module _ (ok : v ≡ (Ok tt)) where
       good : (wanted_of wanted).refusal ≡ 0
       unfolding verdict_says given
       good = sym (ap (λ (a : Answer). a.refusal) (ap verdict_says (sym ok) ∙ says))
@@ -136,7 +132,7 @@ module _ (w wanted o : List ℕ) where
               ap (λ (l : List ℕ). removal_words l ++ insertion_words (stands_in w caps) cells) gone_same
               ∙ (ap (λ (p : Live → Bool). removal_words (unwanted m cells) ++ insertion_words p cells) stand_same ∙ sym (words_then _ _))
 
-        pub plan_short : length o < total → Proposed w wanted o (Refused OutputShort) o
+        pub plan_short : length o < total → Proposed w wanted o (Err OutputShort) o
         unfolding planner_answer planner_checks list_answer ◌when◌ answer proposal_says refused listed
         plan_short h = record {
           refused = λ n. absurd (clash (mesh_opened w caps e).0 n);
@@ -148,7 +144,7 @@ module _ (w wanted o : List ℕ) where
               rw (good, short) (refl, refl);
         }
 
-        pub plan_done : total ≤ length o → (r : ℕ) (o' : List ℕ) → Wrote w caps s wanted o r o' → Proposed w wanted o (Words total) o'
+        pub plan_done : total ≤ length o → (r : ℕ) (o' : List ℕ) → Wrote w caps s wanted o r o' → Proposed w wanted o (Ok total) o'
         unfolding planner_answer planner_checks list_answer ◌when◌ answer proposal_says given listed
         plan_done h r o' did =
             let is : did.words ≡ text = did.all good in

@@ -1,13 +1,12 @@
 -- The cells that go, one after another.
 use mathlib.Core.Path.{◌≡◌, refl, sym, ap, ◌∙◌}
-use mathlib.Core.Bool.{Bool, true, false, cond, not, ◌&&◌}
-use mathlib.Core.List.{List, [], ◌∷◌, ◌++◌, append_assoc, append-nil, map}
+use mathlib.Core.Bool.{Bool, true, false, cond, not}
+use mathlib.Core.List.{List, [], ◌∷◌, ◌++◌, append_assoc, append-nil}
 use Prim.Native.Nat.{ℕ, suc, ◌+◌, ◌*◌, ◌<◌, ◌≤◌}
 use native.Mathlib.Numerals.{add-one}
 use native.Mathlib.Omega.{arith}
 use borrow.Author.Tests.{eq-eqb, ne_eqb}
-use lib.Dec.{eqb}
-use lib.ListN.{length, get_or, take, drop, length-append}
+use lib.ListN.{length, get_or, take, length-append}
 use lib.Seq.{take-suc, take_all}
 use Rattle.lists.specs.Lists.{select}
 use Rattle.numbers.specs.declared.Caps.{Caps}
@@ -53,6 +52,10 @@ module _ (w : List ℕ) (caps : Caps) (s : List ℕ) (c t : ℕ) (code : t ≡ c
     pub goes_other : b ≡ false → true ≡ goes_in w caps s c
     unfolding goes_in
     goes_other q = let here : in_set s c ≡ false = sym e ∙ q in rw (← code, ne_eqb t 0 f, here)
+
+    pub goes_live : not b ≡ goes_in w caps s c
+    unfolding goes_in
+    goes_live = rw (← code, ne_eqb t 0 f, e)
 
 module _ (w : List ℕ) (caps : Caps) (s : List ℕ) where
   abbrev p : ℕ → Bool

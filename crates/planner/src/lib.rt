@@ -17,18 +17,11 @@ ghost use Rattle.planner.specs.Proposed.{Proposed};
 
 use build::record_end;
 use cell_set::{has_cell, put_cell};
-use map::{Refusal, Verdict};
+use map::Refusal;
 use numbers::{Caps, Cell, PAST_CELLS};
-use store::{Opened, code_of, open};
+use store::{code_of, open};
 use wanted::{read_wanted, record_stands};
 use words::{part, word};
-
-// A plan, with its length in words, or why there is none.
-#[derive(Clone, Copy)]
-pub enum Proposal {
-    Words(usize),
-    Refused(Refusal),
-}
 
 // One record: its cell is put into the set where it stands in the mesh; otherwise its insertion takes n words.
 fn mark_record(
@@ -54,6 +47,7 @@ fn mark_standing(w: &[u32], caps: Caps, wanted: &[u32], standing: &mut [u8]) -> 
 {
     let mut at: usize = 0;
     let mut total: usize = 0;
+    // a walk from record to record, not a count: each says where the next begins
     while at < wanted.len() {
         let end = record_end(wanted, at);
         total += mark_record(w, caps, wanted, at, 1 + (end - at), standing);
@@ -66,13 +60,7 @@ fn mark_standing(w: &[u32], caps: Caps, wanted: &[u32], standing: &mut [u8]) -> 
 fn goes(w: &[u32], caps: Caps, standing: &[u8], c: Cell) -> bool
     ensures { result ≡ goes_in w.now caps standing.now c.0 }
 {
-    if code_of(w, caps, c) == 0 {
-        return false;
-    }
-    if has_cell(standing, c) {
-        return false;
-    }
-    true
+    code_of(w, caps, c) != 0 && !has_cell(standing, c)
 }
 
 // How many cells go.
@@ -80,12 +68,10 @@ fn count_going(w: &[u32], caps: Caps, standing: &[u8]) -> u32
     ensures { result ≡ length (select (goes_in w.now caps standing.now) caps.cells) }
 {
     let mut n: u32 = 0;
-    let mut c: u32 = 0;
-    while c < caps.cells {
+    for c in 0..caps.cells {
         if goes(w, caps, standing, Cell(c)) {
             n += 1;
         }
-        c += 1;
     }
     n
 }
@@ -106,10 +92,8 @@ fn add_all(out: &mut [u32], at: usize, words: &[u32]) -> usize
     ensures { Appended words.now out.old at result out.new }
 {
     let mut next = at;
-    let mut i: usize = 0;
-    while i < words.len() {
-        next = add(out, next, word(words, i));
-        i += 1;
+    for x in words {
+        next = add(out, next, *x);
     }
     next
 }
@@ -137,10 +121,8 @@ fn write_removals(out: &mut [u32], w: &[u32], caps: Caps, standing: &[u8]) -> us
     ensures { Appended (removal_words (select (goes_in w.now caps standing.now) caps.cells)) out.old 0 result out.new }
 {
     let mut next: usize = 0;
-    let mut c: u32 = 0;
-    while c < caps.cells {
+    for c in 0..caps.cells {
         next = write_removal(out, next, w, caps, standing, Cell(c));
-        c += 1;
     }
     next
 }
@@ -170,6 +152,7 @@ fn write_insertions(out: &mut [u32], at: usize, w: &[u32], caps: Caps, wanted: &
 {
     let mut next = at;
     let mut from: usize = 0;
+    // a walk from record to record, not a count: each says where the next begins
     while from < wanted.len() {
         let end = record_end(wanted, from);
         next = write_insertion(out, next, w, caps, wanted, from, end - from);
@@ -187,22 +170,18 @@ fn write_plan(out: &mut [u32], w: &[u32], caps: Caps, standing: &[u8], wanted: &
 }
 
 // The plan for a wanted list, written as the words of a list of edits.
-pub fn plan(w: &[u32], wanted: &[u32], out: &mut [u32]) -> Proposal
+pub fn plan(w: &[u32], wanted: &[u32], out: &mut [u32]) -> Result<usize, Refusal>
     ensures { Proposed w.now wanted.now out.old result out.new }
 {
-    let Opened::Mesh(caps) = open(w) else {
-        return Proposal::Refused(Refusal::NotMesh);
-    };
-    if let Verdict::Refused(why) = read_wanted(wanted) {
-        return Proposal::Refused(why);
-    }
+    let caps = open(w)?;
+    read_wanted(wanted)?;
     let mut standing = [0u8; PAST_CELLS as usize];
     let coming = mark_standing(w, caps, wanted, &mut standing);
     let going = count_going(w, caps, &standing);
     let total = 2 * going as usize + coming;
     if out.len() < total {
-        return Proposal::Refused(Refusal::OutputShort);
+        return Err(Refusal::OutputShort);
     }
     write_plan(out, w, caps, &standing, wanted);
-    Proposal::Words(total)
+    Ok(total)
 }

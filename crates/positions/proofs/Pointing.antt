@@ -22,7 +22,7 @@ use Rattle.metres.specs.declared.Point.{Point}
 use Rattle.ask.specs.Refusals.{no_value}
 use Rattle.ask.proofs.Asks.{asked_refused, asked_given}
 use Rattle.numbers.specs.declared.Caps.{Caps}
-use Rattle.store.specs.declared.Opened.TheVariants.{Mesh}
+use Rattle.std.specs.Prelude.{Result, Ok, Err}
 use Rattle.store.specs.Slots.{code_in, corner_in}
 use Rattle.store.specs.Open.{opened}
 use Rattle.map.specs.Cells.{Map}
@@ -30,14 +30,10 @@ use Rattle.map.specs.Answers.{Answer, ◌when◌, answer, cell_checks}
 use Rattle.map.specs.Says.{number_of, given, refused, value_says, verdict_says}
 use Rattle.map.specs.declared.Refusal.{Refusal}
 use Rattle.map.specs.declared.Refusal.TheVariants.{OutputShort}
-use Rattle.map.specs.declared.Value.TheVariants.{Is, Refused}
-use Rattle.map.specs.declared.Verdict.TheVariants.{Accepted}
 use Rattle.map.proofs.Refusals.{number_some}
 use Rattle.picture.specs.Picture.{Wf}
 use Rattle.checks.specs.Checked.{Checked}
 use Rattle.checks.specs.Opening.{Opens}
-use Rattle.checks.specs.declared.Opening.{Opening}
-use Rattle.checks.specs.declared.Opening.TheVariants as Opening'
 use Rattle.checks.proofs.Values.{Numbered, refused_more, given_more}
 use Rattle.checks.proofs.Opens.{mesh_opened, wf_caps}
 use Rattle.positions.specs.Measures.{coordinates, points_of, origins}
@@ -52,10 +48,10 @@ unfolding corner_checks list_check cell_checks ◌when◌ all
 corner_numbered m c numbers = refl
 
 -- a refusal gives no count, and a count is no refusal
-not_given : (n : ℕ) (why : Refusal) → Refused why ≡ Is n → ⊥
+not_given : (n : ℕ) (why : Refusal) → Err why ≡ Ok n → ⊥
 not_given n why e = let z : ◌≡◌ {A = ℕ} 0 1 = cc in omega arith
 
-count_one : (n k : ℕ) → Is n ≡ Is k → n ≡ k
+count_one : (n k : ℕ) → ◌≡◌ {A = Result ℕ Refusal} (Ok n) (Ok k) → n ≡ k
 count_one n k e = cc
 
 module _ (w : List ℕ) (positions : List ℤ) (c : ℕ) (o : List Float) where
@@ -64,11 +60,11 @@ module _ (w : List ℕ) (positions : List ℤ) (c : ℕ) (o : List Float) where
   unfolding pointed refused
   still a why l e = rw (← e, ne_eqb (number_of why) 0 (λ z. omega (arith, number_some why)))
 
-  pub pointed_refused : (opening : Opening) → Opens w (λ m. corner_checks m c (length positions)) opening → (why : Refusal) → opening ≡ Opening'.Refused why
-      → Pointed w positions c o (Refused why) o
+  pub pointed_refused : (opening : Result Caps Refusal) → Opens w (λ m. corner_checks m c (length positions)) opening → (why : Refusal) → opening ≡ Err why
+      → Pointed w positions c o (Err why) o
   unfolding points_answer value_says
   pointed_refused opening k why q = record {
-    refused = λ none. ap Refused (k.no_mesh why q none);
+    refused = λ none. ap Err (k.no_mesh why q none);
     kept = λ other z. refl;
     first = λ n z. absurd (not_given n why z);
     answers = λ m wf.
@@ -76,7 +72,7 @@ module _ (w : List ℕ) (positions : List ℤ) (c : ℕ) (o : List Float) where
         (a, still (answer (corner_checks m c (length positions) ++ ((12 when ltb (length o) (3 * length (m.at c).marks)) ∷ [])) (length (m.at c).marks ∷ [])) why (coordinates positions (m.at c).marks) a);
   }
 
-  module _ (caps : Caps) (opens : Mesh caps ≡ opened w) (k : Checked w caps (λ m. corner_checks m c (length positions)) Accepted) (n : ℕ)
+  module _ (caps : Caps) (opens : Ok caps ≡ opened w) (k : Checked w caps (λ m. corner_checks m c (length positions)) (Ok tt)) (n : ℕ)
       (count : n ≡ (shape (code_in w caps c)).marks) where
     -- the room decides
     behind : (m : Map) → Wf w m
@@ -91,7 +87,7 @@ module _ (w : List ℕ) (positions : List ℤ) (c : ℕ) (o : List Float) where
         let e = wf_caps w m wf caps opens in
         count_is w caps m e wf c (corner_below w c (length positions) caps k m e wf) n count
 
-    pub pointed_short : length o < 3 * n → Pointed w positions c o (Refused OutputShort) o
+    pub pointed_short : length o < 3 * n → Pointed w positions c o (Err OutputShort) o
     unfolding ◌when◌ answer value_says refused pointed
     pointed_short h = record {
       refused = λ none. absurd (clash (mesh_opened w caps opens).0 none);
@@ -102,7 +98,7 @@ module _ (w : List ℕ) (positions : List ℤ) (c : ℕ) (o : List Float) where
           rw (← behind m wf, short) (refl, refl);
     }
 
-    pub pointed_written : 3 * n ≤ length o → (o' : List Float) → Wrote (coordinates positions (list_of n (corner_in w caps c))) o o' → Pointed w positions c o (Is n) o'
+    pub pointed_written : 3 * n ≤ length o → (o' : List Float) → Wrote (coordinates positions (list_of n (corner_in w caps c))) o o' → Pointed w positions c o (Ok n) o'
     unfolding ◌when◌ answer value_says given pointed
     pointed_written h o' f = record {
       refused = λ none. absurd (clash (mesh_opened w caps opens).0 none);
@@ -129,24 +125,24 @@ module _ (w : List ℕ) (positions : List ℤ) (c : ℕ) (o : List Float) where
 
 -- the corners by value
 module _ (w : List ℕ) (positions : List ℤ) (c : ℕ) where
-  pub cornered_refused : (opening : Opening) → Opens w (λ m. corner_checks m c (length positions)) opening → (why : Refusal) → opening ≡ Opening'.Refused why
-      → (at : List Point) → at ≡ origins → Cornered w positions c (record { count = Refused why; at = at })
+  pub cornered_refused : (opening : Result Caps Refusal) → Opens w (λ m. corner_checks m c (length positions)) opening → (why : Refusal) → opening ≡ Err why
+      → (at : List Point) → at ≡ origins → Cornered w positions c (record { count = Err why; at = at })
   unfolding corners_answer value_says
   cornered_refused opening k why q at e = record {
-    count = asked_refused value_says w (λ m. corner_checks m c (length positions)) (λ m. length (m.at c).marks ∷ []) Refused (λ why. refl) opening k why q;
+    count = asked_refused value_says w (λ m. corner_checks m c (length positions)) (λ m. length (m.at c).marks ∷ []) Err (λ why. refl) opening k why q;
     few = λ n z. absurd (not_given n why z);
     none = λ other z. e;
     points = λ m wf n z. absurd (not_given n why z);
   }
 
-  module _ (caps : Caps) (opens : Mesh caps ≡ opened w) (k : Checked w caps (λ m. corner_checks m c (length positions)) Accepted) (n : ℕ)
+  module _ (caps : Caps) (opens : Ok caps ≡ opened w) (k : Checked w caps (λ m. corner_checks m c (length positions)) (Ok tt)) (n : ℕ)
       (count : n ≡ (shape (code_in w caps c)).marks) where
     pub cornered_given : (at : List Point) → Wrote (points_of positions (list_of n (corner_in w caps c))) origins at
-        → Cornered w positions c (record { count = Is n; at = at })
+        → Cornered w positions c (record { count = Ok n; at = at })
     unfolding corners_answer value_says points_of
     cornered_given at f = record {
       count =
-          asked_given value_says w (λ m. corner_checks m c (length positions)) (λ m. length (m.at c).marks ∷ []) no_value caps opens (Is n) Accepted k refl
+          asked_given value_says w (λ m. corner_checks m c (length positions)) (λ m. length (m.at c).marks ∷ []) no_value caps opens (Ok n) (Ok tt) k refl
           (λ m. corner_numbered m c (length positions)) (λ m e wf. ap (λ (j : ℕ). given (j ∷ [])) (counted m e wf));
       few = λ j z. rw (← count_one n j z) (few_marks (code_in w caps c) n count);
       none = λ why z. absurd (not_given n why (sym z));

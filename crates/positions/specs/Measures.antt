@@ -1,5 +1,5 @@
 -- What is given of a cell, by its type, its marks and their positions.
-use Rattle.std.specs.Prelude.{List, [], ◌∷◌, map, ℕ, ◌+◌, ◌*◌, get_or, length, replicate, ℤ, pos, Float}
+use Rattle.std.specs.Prelude.{List, [], ◌∷◌, map, ℕ, ◌+◌, ◌*◌, get_or, length, replicate, ℤ, pos, Float, Result, Ok, Err}
 use Rattle.std.specs.Float.{binary64}
 use Rattle.std.specs.Float.Ieee.{of_int, of_bits, div}
 use Rattle.shapes.specs.Sizes.{most_marks}
@@ -7,8 +7,9 @@ use Rattle.metres.specs.Whole.{position_of, sum_of, bar_length, tri_area, quad_a
 use Rattle.metres.specs.Points.{point_of}
 use Rattle.metres.specs.declared.Point.{Point}
 use Rattle.map.specs.declared.Refusal.TheVariants.{TypeUnknown}
+use Rattle.positions.specs.declared.Measured.TheVariants.{SquaredLength, DoubledArea, SixfoldVolume}
 use Rattle.positions.specs.declared.Measured.{Measured}
-use Rattle.positions.specs.declared.Measured.TheVariants.{SquaredLength, DoubledArea, SixfoldVolume, Refused}
+use Rattle.map.specs.declared.Refusal.{Refusal}
 
 -- "For a cell give the position of each corner as a point of three floats"
 unfoldable pub points_of : List ℤ → List ℕ → List Point
@@ -37,14 +38,14 @@ unfoldable pub centre_of : List ℤ → List ℕ → Point
 centre_of positions marks = record { x = mean positions marks 0; y = mean positions marks 1; z = mean positions marks 2 }
 
 -- "Each measure is the float equal to the whole-number formula"; "whose kind follows the cell": by type, on the marks of corners 0 to 3
-unfoldable pub measures : List ℤ → ℕ → ℕ → ℕ → ℕ → List Measured
+unfoldable pub measures : List ℤ → ℕ → ℕ → ℕ → ℕ → List (Result Measured Refusal)
 measures positions a b c d =
-    Refused TypeUnknown
-    ∷ SquaredLength (of_int binary64 (bar_length positions a b))
-    ∷ DoubledArea (of_int binary64 (tri_area positions a b c))
-    ∷ DoubledArea (of_int binary64 (quad_area positions a b c d))
-    ∷ SixfoldVolume (of_int binary64 (tetra_volume positions a b c d))
+    Err TypeUnknown
+    ∷ Ok (SquaredLength (of_int binary64 (bar_length positions a b)))
+    ∷ Ok (DoubledArea (of_int binary64 (tri_area positions a b c)))
+    ∷ Ok (DoubledArea (of_int binary64 (quad_area positions a b c d)))
+    ∷ Ok (SixfoldVolume (of_int binary64 (tetra_volume positions a b c d)))
     ∷ []
 
-unfoldable pub measure_of : List ℤ → ℕ → ℕ → ℕ → ℕ → ℕ → Measured
-measure_of positions t a b c d = get_or (measures positions a b c d) t (Refused TypeUnknown)
+unfoldable pub measure_of : List ℤ → ℕ → ℕ → ℕ → ℕ → ℕ → Result Measured Refusal
+measure_of positions t a b c d = get_or (measures positions a b c d) t (Err TypeUnknown)

@@ -1,6 +1,6 @@
 -- What the points of a cell promise: memory that is no mesh is refused with 14; a refusal changes no place of the output, and points that
 -- fit change only its first places, on any memory; on well-formed memory the answer and the places are the definition's.
-use Rattle.std.specs.Prelude.{◌≡◌, false, cond, List, [], ◌∷◌, ◌++◌, ℕ, ◌*◌, ◌≤◌, eqb, ltb, length, drop, ℤ, Float}
+use Rattle.std.specs.Prelude.{◌≡◌, false, cond, List, [], ◌∷◌, ◌++◌, ℕ, ◌*◌, ◌≤◌, eqb, ltb, length, drop, ℤ, Float, Result, Ok, Err}
 use Rattle.shapes.specs.Sizes.{most_marks}
 use Rattle.store.specs.Open.{is_mesh}
 use Rattle.map.specs.Cells.{Map}
@@ -8,8 +8,6 @@ use Rattle.map.specs.Answers.{Answer, ◌when◌, answer}
 use Rattle.map.specs.Says.{value_says}
 use Rattle.map.specs.declared.Refusal.{Refusal}
 use Rattle.map.specs.declared.Refusal.TheVariants.{NotMesh}
-use Rattle.map.specs.declared.Value.{Value}
-use Rattle.map.specs.declared.Value.TheVariants.{Is, Refused}
 use Rattle.picture.specs.Picture.{Wf}
 use Rattle.ask.specs.Asked.{Asked}
 use Rattle.ask.specs.Refusals.{no_value}
@@ -31,10 +29,10 @@ points_answer m positions c places =
 unfoldable pub pointed : Answer → List Float → List Float → List Float
 pointed a l out = cond (eqb a.refusal 0) (l ++ drop (length l) out) out
 
-pub record Pointed (w : List ℕ) (positions : List ℤ) (c : ℕ) (o : List Float) (r : Value) (o' : List Float) : Type 0 where
-  pub refused : is_mesh w ≡ false → r ≡ Refused NotMesh
-  pub kept : (why : Refusal) → r ≡ Refused why → o' ≡ o
-  pub first : (n : ℕ) → r ≡ Is n → (3 * n ≤ length o) × (length o' ≡ length o) × (drop (3 * n) o' ≡ drop (3 * n) o)
+pub record Pointed (w : List ℕ) (positions : List ℤ) (c : ℕ) (o : List Float) (r : Result ℕ Refusal) (o' : List Float) : Type 0 where
+  pub refused : is_mesh w ≡ false → r ≡ Err NotMesh
+  pub kept : (why : Refusal) → r ≡ Err why → o' ≡ o
+  pub first : (n : ℕ) → r ≡ Ok n → (3 * n ≤ length o) × (length o' ≡ length o) × (drop (3 * n) o' ≡ drop (3 * n) o)
   pub answers : (m : Map) → Wf w m
       → (value_says r ≡ points_answer m positions c (length o))
       × (o' ≡ pointed (points_answer m positions c (length o)) (coordinates positions (m.at c).marks) o)
@@ -45,6 +43,6 @@ corners_answer m positions c = answer (corner_checks m c (length positions)) (le
 
 pub record Cornered (w : List ℕ) (positions : List ℤ) (c : ℕ) (r : CornersAt) : Type 0 where
   pub count : Asked value_says no_value w (λ m. corners_answer m positions c) r.count
-  pub few : (n : ℕ) → r.count ≡ Is n → n ≤ most_marks
-  pub none : (why : Refusal) → r.count ≡ Refused why → r.at ≡ origins
-  pub points : (m : Map) → Wf w m → (n : ℕ) → r.count ≡ Is n → r.at ≡ points_of positions (m.at c).marks ++ drop (length (m.at c).marks) origins
+  pub few : (n : ℕ) → r.count ≡ Ok n → n ≤ most_marks
+  pub none : (why : Refusal) → r.count ≡ Err why → r.at ≡ origins
+  pub points : (m : Map) → Wf w m → (n : ℕ) → r.count ≡ Ok n → r.at ≡ points_of positions (m.at c).marks ++ drop (length (m.at c).marks) origins

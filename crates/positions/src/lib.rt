@@ -22,8 +22,8 @@ ghost use Rattle.positions.specs.Measures.{measure_of, coordinate, coordinates, 
 ghost use Rattle.positions.specs.Replies.{measure_says, no_measure, measure_reply, centre_says, no_centre, centre_reply};
 ghost use Rattle.positions.specs.Pointed.{Wrote, Pointed, Cornered};
 
-use checks::{Opening, about_cell};
-use map::{Refusal, Value};
+use checks::about_cell;
+use map::Refusal;
 use metres::{Point, doubled_area, metre, point_at, sixfold_volume, squared_length};
 use numbers::{Caps, Cell, Mark};
 use shapes::{MOST_MARKS, mark_count};
@@ -38,20 +38,12 @@ pub enum Measured {
     SquaredLength(f64),
     DoubledArea(f64),
     SixfoldVolume(f64),
-    Refused(Refusal),
-}
-
-// The centre of a cell.
-#[derive(Clone, Copy)]
-pub enum Centred {
-    At(Point),
-    Refused(Refusal),
 }
 
 // The corners of a cell as points: as many as are counted stand first, and behind them the origin.
 #[derive(Clone, Copy)]
 pub struct CornersAt {
-    pub count: Value,
+    pub count: Result<u32, Refusal>,
     pub at: [Point; MOST_MARKS as usize],
 }
 
@@ -63,57 +55,55 @@ fn too_few(positions: &[i16], caps: Caps) -> bool
 }
 
 // A question about the corners of a cell.
-fn about_corners(w: &[u32], positions: &[i16], c: Cell) -> Opening
+fn about_corners(w: &[u32], positions: &[i16], c: Cell) -> Result<Caps, Refusal>
     ensures { Opens w.now (λ m. corner_checks m c.0 (length positions.now)) result }
 {
-    let caps = match about_cell(w, c) {
-        Opening::Refused(why) => return Opening::Refused(why),
-        Opening::Open(caps) => caps,
-    };
+    let caps = about_cell(w, c)?;
     if too_few(positions, caps) {
-        return Opening::Refused(Refusal::PositionsShort);
+        return Err(Refusal::PositionsShort);
     }
-    Opening::Open(caps)
+    Ok(caps)
 }
 
 // A question about the measure of a cell: its type has one.
-fn about_measure(w: &[u32], positions: &[i16], c: Cell) -> Opening
+fn about_measure(w: &[u32], positions: &[i16], c: Cell) -> Result<Caps, Refusal>
     ensures { Opens w.now (λ m. measure_checks m c.0 (length positions.now)) result }
 {
-    let caps = match about_cell(w, c) {
-        Opening::Refused(why) => return Opening::Refused(why),
-        Opening::Open(caps) => caps,
-    };
+    let caps = about_cell(w, c)?;
     if MOST_MEASURED < code_of(w, caps, c) {
-        return Opening::Refused(Refusal::TypeUnknown);
+        return Err(Refusal::TypeUnknown);
     }
     if too_few(positions, caps) {
-        return Opening::Refused(Refusal::PositionsShort);
+        return Err(Refusal::PositionsShort);
     }
-    Opening::Open(caps)
+    Ok(caps)
 }
 
 // The measure of a type on four marks, as many as it needs of them.
-fn measure_of(positions: &[i16], code: u32, a: Mark, b: Mark, c: Mark, d: Mark) -> Measured
+fn measure_of(
+    positions: &[i16],
+    code: u32,
+    a: Mark,
+    b: Mark,
+    c: Mark,
+    d: Mark,
+) -> Result<Measured, Refusal>
     ensures { result ≡ measure_of positions.now code a.0 b.0 c.0 d.0 }
 {
     match code {
-        1 => Measured::SquaredLength(squared_length(positions, a, b)),
-        2 => Measured::DoubledArea(doubled_area(positions, a, b, a, c)),
-        3 => Measured::DoubledArea(doubled_area(positions, a, c, b, d)),
-        4 => Measured::SixfoldVolume(sixfold_volume(positions, a, b, c, d)),
-        _ => Measured::Refused(Refusal::TypeUnknown),
+        1 => Ok(Measured::SquaredLength(squared_length(positions, a, b))),
+        2 => Ok(Measured::DoubledArea(doubled_area(positions, a, b, a, c))),
+        3 => Ok(Measured::DoubledArea(doubled_area(positions, a, c, b, d))),
+        4 => Ok(Measured::SixfoldVolume(sixfold_volume(positions, a, b, c, d))),
+        _ => Err(Refusal::TypeUnknown),
     }
 }
 
 // The measure of a cell.
-pub fn measure(w: &[u32], positions: &[i16], c: Cell) -> Measured
+pub fn measure(w: &[u32], positions: &[i16], c: Cell) -> Result<Measured, Refusal>
     ensures { Asked measure_says no_measure w.now (λ m. measure_reply m positions.now c.0) result }
 {
-    let caps = match about_measure(w, positions, c) {
-        Opening::Refused(why) => return Measured::Refused(why),
-        Opening::Open(caps) => caps,
-    };
+    let caps = about_measure(w, positions, c)?;
     let p = corner_of(w, caps, c, 0);
     let q = corner_of(w, caps, c, 1);
     let r = corner_of(w, caps, c, 2);
@@ -126,12 +116,10 @@ fn total(w: &[u32], caps: Caps, c: Cell, n: u32, positions: &[i16], k: u32) -> f
     ensures { n ≤ most_marks → result ≡ of_int binary64 (sum_of n (λ i. coordinate positions.now k (corner_in w.now caps c.0 i))) }
 {
     let mut sum = 0.0;
-    let mut i: u32 = 0;
-    while i < n {
+    for i in 0..n {
         let v = corner_of(w, caps, c, i);
         let x = metre(positions, 3 * v.0 as usize + k as usize);
         sum = sum + x as f64;
-        i += 1;
     }
     sum + 0.0
 }
@@ -144,18 +132,15 @@ fn mean(sum: f64, n: u32) -> f64
 }
 
 // The centre of a cell: each coordinate's sum, divided once by the count of corners.
-pub fn centre(w: &[u32], positions: &[i16], c: Cell) -> Centred
+pub fn centre(w: &[u32], positions: &[i16], c: Cell) -> Result<Point, Refusal>
     ensures { Asked centre_says no_centre w.now (λ m. centre_reply m positions.now c.0) result }
 {
-    let caps = match about_corners(w, positions, c) {
-        Opening::Refused(why) => return Centred::Refused(why),
-        Opening::Open(caps) => caps,
-    };
+    let caps = about_corners(w, positions, c)?;
     let n = mark_count(code_of(w, caps, c));
     let x = mean(total(w, caps, c, n, positions, 0), n);
     let y = mean(total(w, caps, c, n, positions, 1), n);
     let z = mean(total(w, caps, c, n, positions, 2), n);
-    Centred::At(Point { x: x, y: y, z: z })
+    Ok(Point { x, y, z })
 }
 
 // Eight times the origin.
@@ -180,15 +165,13 @@ fn corner_points(
     ensures { Wrote (points_of positions.now (list_of n (corner_in w.now caps c.0))) origins result }
 {
     let mut at = origins();
-    let mut i: u32 = 0;
-    while i < n {
+    for i in 0..n {
         let v = corner_of(w, caps, c, i);
         let p = point_at(positions, v);
         let place = i as usize;
         if place < MOST_MARKS as usize {
             at[place] = p;
         }
-        i += 1;
     }
     at
 }
@@ -198,15 +181,15 @@ pub fn corners(w: &[u32], positions: &[i16], c: Cell) -> CornersAt
     ensures { Cornered w.now positions.now c.0 result }
 {
     match about_corners(w, positions, c) {
-        Opening::Refused(why) => CornersAt {
-            count: Value::Refused(why),
+        Err(why) => CornersAt {
+            count: Err(why),
             at: origins(),
         },
-        Opening::Open(caps) => {
+        Ok(caps) => {
             let n = mark_count(code_of(w, caps, c));
             let at = corner_points(w, caps, c, n, positions);
             CornersAt {
-                count: Value::Is(n),
+                count: Ok(n),
                 at: at,
             }
         }
@@ -226,30 +209,25 @@ fn put_float(out: &mut [f64], at: usize, x: f64)
 fn write_points(w: &[u32], caps: Caps, c: Cell, n: u32, positions: &[i16], out: &mut [f64])
     ensures { Wrote (coordinates positions.now (list_of n (corner_in w.now caps c.0))) out.old out.new }
 {
-    let mut i: u32 = 0;
-    while i < n {
+    for i in 0..n {
         let v = corner_of(w, caps, c, i);
         let p = point_at(positions, v);
         let at = 3 * i as usize;
         put_float(out, at, p.x);
         put_float(out, at + 1, p.y);
         put_float(out, at + 2, p.z);
-        i += 1;
     }
 }
 
 // The corners of a cell as points, three floats each, and their count.
-pub fn points(w: &[u32], positions: &[i16], c: Cell, out: &mut [f64]) -> Value
+pub fn points(w: &[u32], positions: &[i16], c: Cell, out: &mut [f64]) -> Result<u32, Refusal>
     ensures { Pointed w.now positions.now c.0 out.old result out.new }
 {
-    let caps = match about_corners(w, positions, c) {
-        Opening::Refused(why) => return Value::Refused(why),
-        Opening::Open(caps) => caps,
-    };
+    let caps = about_corners(w, positions, c)?;
     let n = mark_count(code_of(w, caps, c));
     if out.len() < 3 * n as usize {
-        return Value::Refused(Refusal::OutputShort);
+        return Err(Refusal::OutputShort);
     }
     write_points(w, caps, c, n, positions, out);
-    Value::Is(n)
+    Ok(n)
 }

@@ -26,20 +26,14 @@ use words::word;
 fn typed(code: u32) -> bool
     ensures { result ≡ typed code }
 {
-    if code == 0 {
-        return true;
-    }
-    0 < dimension(code)
+    code == 0 || 0 < dimension(code)
 }
 
 // The marks are marks of the mesh, none twice.
 fn fine(caps: Caps, marks: &[u32]) -> bool
     ensures { result ≡ fine caps marks.now }
 {
-    if reaches(marks, caps.marks) {
-        return false;
-    }
-    !repeats(marks)
+    !reaches(marks, caps.marks) && !repeats(marks)
 }
 
 // The mark at a corner that stands in the second part: only a cell with more than four has them there.
@@ -56,29 +50,19 @@ fn far_mark(marks: &[u32], k: u32) -> u32
 fn corner_ok(w: &[u32], caps: Caps, c: Cell, k: u32, marks: &[u32]) -> bool
     ensures { result ≡ corner_right w.now caps c.0 marks.now k }
 {
-    let v = corner_of(w, caps, c, k);
-    if v.0 != word(marks, k as usize) {
-        return false;
-    }
-    if far_of(w, caps, c, k) != far_mark(marks, k) {
-        return false;
-    }
-    if (k as usize) < marks.len() {
-        return true;
-    }
-    link_of(w, caps, c, k) == 0
+    corner_of(w, caps, c, k).0 == word(marks, k as usize)
+        && far_of(w, caps, c, k) == far_mark(marks, k)
+        && ((k as usize) < marks.len() || link_of(w, caps, c, k) == 0)
 }
 
 // Every corner that a record has room for.
 fn corners_ok(w: &[u32], caps: Caps, c: Cell, marks: &[u32]) -> bool
     ensures { result ≡ every most_marks (corner_right w.now caps c.0 marks.now) }
 {
-    let mut k: u32 = 0;
-    while k < MOST_MARKS {
+    for k in 0..MOST_MARKS {
         if !corner_ok(w, caps, c, k, marks) {
             return false;
         }
-        k += 1;
     }
     true
 }
@@ -87,12 +71,10 @@ fn corners_ok(w: &[u32], caps: Caps, c: Cell, marks: &[u32]) -> bool
 fn facets_ok(w: &[u32], caps: Caps, c: Cell, t: u32) -> bool
     ensures { result ≡ every most_facets (facet_right w.now caps c.0 (facet_count t)) }
 {
-    let mut f = facet_count(t);
-    while f < MOST_FACETS {
+    for f in facet_count(t)..MOST_FACETS {
         if sibling_word(w, caps, half_of(c, f)) != 0 {
             return false;
         }
-        f += 1;
     }
     true
 }
@@ -101,13 +83,7 @@ fn facets_ok(w: &[u32], caps: Caps, c: Cell, t: u32) -> bool
 fn rest_ok(w: &[u32], caps: Caps, c: Cell) -> bool
     ensures { result ≡ rest_right w.now caps c.0 }
 {
-    if !cell_blank(w, caps, c) {
-        return false;
-    }
-    if code_of(w, caps, c) != 0 {
-        return true;
-    }
-    licence_of(w, caps, c) == 0
+    cell_blank(w, caps, c) && (code_of(w, caps, c) != 0 || licence_of(w, caps, c) == 0)
 }
 
 // A cell's record by itself.
@@ -115,20 +91,12 @@ fn record_ok(w: &[u32], caps: Caps, c: Cell) -> bool
     ensures { result ≡ record_right w.now caps c.0 }
 {
     let t = code_of(w, caps, c);
-    if !typed(t) {
-        return false;
-    }
     let marks = marks_at(w, caps, c);
-    if !fine(caps, marks) {
-        return false;
-    }
-    if !corners_ok(w, caps, c, marks) {
-        return false;
-    }
-    if !facets_ok(w, caps, c, t) {
-        return false;
-    }
-    rest_ok(w, caps, c)
+    typed(t)
+        && fine(caps, marks)
+        && corners_ok(w, caps, c, marks)
+        && facets_ok(w, caps, c, t)
+        && rest_ok(w, caps, c)
 }
 
 // Whether the chain of v meets the cell c.
@@ -136,8 +104,7 @@ fn meets(w: &[u32], caps: Caps, v: Mark, c: Cell) -> bool
     ensures { result ≡ meets w.now caps c.0 v.0 }
 {
     let mut link = first_of(w, caps, v);
-    let mut n: u32 = 0;
-    while n < MOST_AROUND {
+    for _ in 0..MOST_AROUND {
         if link == 0 {
             return false;
         }
@@ -146,7 +113,6 @@ fn meets(w: &[u32], caps: Caps, v: Mark, c: Cell) -> bool
             return true;
         }
         link = link_of(w, caps, Cell(at / 8), at % 8);
-        n += 1;
     }
     false
 }
@@ -155,12 +121,10 @@ fn meets(w: &[u32], caps: Caps, v: Mark, c: Cell) -> bool
 fn all_meet(w: &[u32], caps: Caps, c: Cell, marks: &[u32]) -> bool
     ensures { result ≡ all (meets w.now caps c.0) marks.now }
 {
-    let mut i = 0;
-    while i < marks.len() {
-        if !meets(w, caps, Mark(marks[i]), c) {
+    for v in marks {
+        if !meets(w, caps, Mark(*v), c) {
             return false;
         }
-        i += 1;
     }
     true
 }
@@ -169,27 +133,18 @@ fn all_meet(w: &[u32], caps: Caps, c: Cell, marks: &[u32]) -> bool
 fn cell_ok(w: &[u32], caps: Caps, c: Cell) -> bool
     ensures { result ≡ cell_right w.now caps c.0 }
 {
-    if !record_ok(w, caps, c) {
-        return false;
-    }
-    all_meet(w, caps, c, marks_at(w, caps, c))
+    record_ok(w, caps, c) && all_meet(w, caps, c, marks_at(w, caps, c))
 }
 
 // A cell may stand in the chain of v by its corner k: it is from low on, below the capacity, and v is its mark there.
 fn stands(w: &[u32], caps: Caps, v: Mark, low: Cell, c: Cell, k: u32) -> bool
     ensures { result ≡ stands w.now caps v.0 low.0 c.0 k }
 {
-    if c.0 < low.0 {
-        return false;
-    }
-    if caps.cells <= c.0 {
+    if c.0 < low.0 || caps.cells <= c.0 {
         return false;
     }
     let marks = marks_at(w, caps, c);
-    if marks.len() <= k as usize {
-        return false;
-    }
-    marks[k as usize] == v.0
+    (k as usize) < marks.len() && marks[k as usize] == v.0
 }
 
 // The chain of v: each cell may stand there, they ascend, and the count is theirs.
@@ -199,8 +154,7 @@ fn chain_ok(w: &[u32], caps: Caps, v: Mark) -> bool
     let count = held_of(w, caps, v);
     let mut link = first_of(w, caps, v);
     let mut low: u32 = 0;
-    let mut n: u32 = 0;
-    while n < MOST_AROUND {
+    for n in 0..MOST_AROUND {
         if link == 0 {
             return count == n;
         }
@@ -210,34 +164,25 @@ fn chain_ok(w: &[u32], caps: Caps, v: Mark) -> bool
         }
         low = at / 8 + 1;
         link = link_of(w, caps, Cell(at / 8), at % 8);
-        n += 1;
     }
-    if link != 0 {
-        return false;
-    }
-    count == n
+    link == 0 && count == MOST_AROUND
 }
 
 // A mark's record, and its chain.
 fn mark_ok(w: &[u32], caps: Caps, v: Mark) -> bool
     ensures { result ≡ mark_right w.now caps v.0 }
 {
-    if !mark_blank(w, caps, v) {
-        return false;
-    }
-    chain_ok(w, caps, v)
+    mark_blank(w, caps, v) && chain_ok(w, caps, v)
 }
 
 // All marks.
 fn marks_ok(w: &[u32], caps: Caps) -> bool
     ensures { result ≡ every caps.marks (mark_right w.now caps) }
 {
-    let mut v: u32 = 0;
-    while v < caps.marks {
+    for v in 0..caps.marks {
         if !mark_ok(w, caps, Mark(v)) {
             return false;
         }
-        v += 1;
     }
     true
 }
@@ -246,12 +191,10 @@ fn marks_ok(w: &[u32], caps: Caps) -> bool
 fn cells_ok(w: &[u32], caps: Caps) -> bool
     ensures { result ≡ every caps.cells (cell_right w.now caps) }
 {
-    let mut c: u32 = 0;
-    while c < caps.cells {
+    for c in 0..caps.cells {
         if !cell_ok(w, caps, Cell(c)) {
             return false;
         }
-        c += 1;
     }
     true
 }
@@ -260,11 +203,5 @@ fn cells_ok(w: &[u32], caps: Caps) -> bool
 pub fn laid(w: &[u32], caps: Caps) -> bool
     ensures { result ≡ laid_in w.now caps }
 {
-    if !head_blank(w, caps) {
-        return false;
-    }
-    if !marks_ok(w, caps) {
-        return false;
-    }
-    cells_ok(w, caps)
+    head_blank(w, caps) && marks_ok(w, caps) && cells_ok(w, caps)
 }

@@ -12,7 +12,8 @@ use Rattle.words.specs.Words.{part_of, Only}
 use Rattle.shapes.specs.Shapes.{shape}
 use Rattle.map.specs.Cells.{licensed_body}
 use Rattle.map.specs.History.{Edit, Insert, Remove}
-use Rattle.map.specs.declared.Verdict.{Verdict}
+use Rattle.map.specs.declared.Refusal.{Refusal}
+use Rattle.std.specs.Prelude.{Result, ⊤}
 use Rattle.mesh.specs.Edited.{Edited}
 use Rattle.mesh.specs.Run as R
 use Rattle.mesh.specs.Run.{Run}
@@ -23,7 +24,7 @@ use Rattle.journal_store.proofs.Copying.{copied_word}
 use Rattle.replay.specs.Replayed.{Replayed}
 
 -- one more edit at the end
-pub run_end : {w w' w'' : List ℕ} {es : List Edit} {e : Edit} {r : Verdict} → Run w es w' → Edited w' e r w'' → Run w (es ++ (e ∷ [])) w''
+pub run_end : {w w' w'' : List ℕ} {es : List Edit} {e : Edit} {r : Result ⊤ Refusal} → Run w es w' → Edited w' e r w'' → Run w (es ++ (e ∷ [])) w''
 run_end {r = r} R.done d = R.then r d R.done
 run_end (R.then v first rest) d = R.then v first (run_end rest d)
 
@@ -36,14 +37,14 @@ pub run_none : (j w : List ℕ) (k : ℕ) → k ≡ 0 → Run w (edits_in j k) w
 unfolding edits_in
 run_none j w k z = rw z R.done
 
-pub run_more : (j w w' w'' : List ℕ) (k : ℕ) (r : Verdict) → Run w (edits_in j k) w' → Edited w' (edit_in j k) r w'' → Run w (edits_in j (k + 1)) w''
+pub run_more : (j w w' w'' : List ℕ) (k : ℕ) (r : Result ⊤ Refusal) → Run w (edits_in j k) w' → Edited w' (edit_in j k) r w'' → Run w (edits_in j (k + 1)) w''
 unfolding edits_in
 run_more j w w' w'' k r run d = rw (add-one k) (run_end run d)
 
 pub run_all : (j w w' : List ℕ) (k n : ℕ) → Run w (edits_in j k) w' → k ≤ n → n ≤ k → Run w (edits_in j n) w'
 run_all j w w' k n run a b = let same : k ≡ n = omega arith in rw same at run
 
-module _ (j w w' : List ℕ) (k : ℕ) (kind c : ℕ) (ek : kind ≡ get_or j (entry_at k + 1) 0) (ec : c ≡ get_or j (entry_at k + 2) 0) (r : Verdict) where
+module _ (j w w' : List ℕ) (k : ℕ) (kind c : ℕ) (ek : kind ≡ get_or j (entry_at k + 1) 0) (ec : c ≡ get_or j (entry_at k + 2) 0) (r : Result ⊤ Refusal) where
   pub insert_entry : kind ≡ insert_kind → (t licence at n : ℕ) (marks : List ℕ) → t ≡ type_in j k → licence ≡ licence_in j k → at ≡ entry_at k + 5 → n ≡ (shape t).marks → marks ≡ part_of j at n
       → Edited w (Insert c (licensed_body t licence marks)) r w' → Edited w (edit_in j k) r w'
   unfolding edit_in

@@ -12,40 +12,35 @@ ghost use Rattle.mesh.specs.Edited.{Edited};
 ghost use Rattle.mesh.specs.Run.{Run};
 ghost use Rattle.replay.specs.Replayed.{Replayed};
 
-use journal_store::{cell_of, copy_words, kind_of, licence_of, marks_at, type_of};
-use map::Verdict;
+use journal_store::{Kind, cell_of, copy_words, kind_of, licence_of, marks_at, type_of};
+use map::Refusal;
 use mesh::{insert_licensed, remove};
 use numbers::Cell;
 use shapes::mark_count;
 use words::part;
 
 // The edit of one entry.
-fn one_entry(w: &mut [u32], j: &[u32], k: u32) -> Verdict
+fn one_entry(w: &mut [u32], j: &[u32], k: u32) -> Result<(), Refusal>
     ensures { Edited w.old (edit_in j.now k) result w.new }
 {
     let c = Cell(cell_of(j, k));
-    if kind_of(j, k) == 1 {
-        let t = type_of(j, k);
-        let licence = licence_of(j, k);
-        return insert_licensed(
-            w,
-            c,
-            t,
-            licence,
-            part(j, marks_at(k), mark_count(t) as usize),
-        );
+    match kind_of(j, k) {
+        Some(Kind::Insert) => {
+            let t = type_of(j, k);
+            let licence = licence_of(j, k);
+            let marks = part(j, marks_at(k), mark_count(t) as usize);
+            insert_licensed(w, c, t, licence, marks)
+        }
+        Some(Kind::Remove) | None => remove(w, c),
     }
-    remove(w, c)
 }
 
 // The edits of the first n entries.
 pub fn replay(w: &mut [u32], j: &[u32], n: u32)
     ensures { Run w.old (edits_in j.now n) w.new }
 {
-    let mut k: u32 = 0;
-    while k < n {
-        one_entry(w, j, k);
-        k += 1;
+    for k in 0..n {
+        let _ = one_entry(w, j, k);
     }
 }
 

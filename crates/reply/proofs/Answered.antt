@@ -15,12 +15,7 @@ use Rattle.words.proofs.Fits.{part_fits}
 use Rattle.words.proofs.Frame.{only_none}
 use Rattle.map.specs.declared.Refusal.{Refusal}
 use Rattle.map.specs.declared.Refusal.TheVariants.{CapacityAbove, BadFrame}
-use Rattle.map.specs.declared.Verdict.{Verdict}
-use Rattle.map.specs.declared.Verdict.TheVariants.{Accepted, Refused}
-use Rattle.map.specs.declared.Value.{Value}
-use Rattle.map.specs.declared.Value.TheVariants as Value'
-use Rattle.map.specs.declared.HalfAt.{HalfAt}
-use Rattle.map.specs.declared.HalfAt.TheVariants as HalfAt'
+use Rattle.std.specs.Prelude.{Result, ⊤, Ok, Err}
 use Rattle.numbers.specs.declared.Half.{Half}
 use Rattle.map.specs.declared.Way.{Way}
 use Rattle.map.specs.Cells.{Map}
@@ -88,13 +83,13 @@ keeps_wf k = k.kept.today
 
 module _ (o : List ℕ) (at r : ℕ) (o' : List ℕ) where
   -- a verdict written
-  module _ (f : Frame) (w w' : Memory) (v : Verdict) (a : Appended (written (verdict_says v)) o at r o') where
-    verdict_kept : (v : Verdict) → ((why : Refusal) → v ≡ Refused why → w' ≡ w) → ((verdict_says v).refusal ≡ 0 → ⊥) → w' ≡ w
+  module _ (f : Frame) (w w' : Memory) (v : Result ⊤ Refusal) (a : Appended (written (verdict_says v)) o at r o') where
+    verdict_kept : (v : Result ⊤ Refusal) → ((why : Refusal) → v ≡ Err why → w' ≡ w) → ((verdict_says v).refusal ≡ 0 → ⊥) → w' ≡ w
     unfolding verdict_says given
-    verdict_kept Accepted k ne = absurd (ne refl)
-    verdict_kept (Refused why) k ne = k why refl
+    verdict_kept (Ok tt) k ne = absurd (ne refl)
+    verdict_kept (Err why) k ne = k why refl
 
-    replied_so : ((why : Refusal) → v ≡ Refused why → w' ≡ w) → Within (reach f w) w w'
+    replied_so : ((why : Refusal) → v ≡ Err why → w' ≡ w) → Within (reach f w) w w'
         → ((g : Journal) → Keeps w g → (reply_to g f ≡ verdict_says v) × Keeps w' (journal_after g f)) → FrameAnswered f w o at r w' o'
     replied_so k i g = record {
       says = verdict_says v;
@@ -106,13 +101,13 @@ module _ (o : List ℕ) (at r : ℕ) (o' : List ℕ) where
     }
 
   -- a refusal written, and nothing else done
-  refused_so : (f : Frame) (w : Memory) (why : Refusal) → Appended (written (verdict_says (Refused why))) o at r o'
-      → ((g : Journal) → Keeps w g → (reply_to g f ≡ verdict_says (Refused why)) × (journal_after g f ≡ g)) → FrameAnswered f w o at r w o'
+  refused_so : (f : Frame) (w : Memory) (why : Refusal) → Appended (written (verdict_says (Err why))) o at r o'
+      → ((g : Journal) → Keeps w g → (reply_to g f ≡ verdict_says (Err why)) × (journal_after g f ≡ g)) → FrameAnswered f w o at r w o'
   refused_so f w why a g =
-      replied_so f w w (Refused why) a (λ _ _. refl) within_none (λ m k. let q = g m k in (q.0, rw q.1 k))
+      replied_so f w w (Err why) a (λ _ _. refl) within_none (λ m k. let q = g m k in (q.0, rw q.1 k))
 
   -- "In the frame program its start and each accepted f0 begin one"
-  module _ (marks cells : ℕ) (w w' : Memory) (v : Verdict) (f : FormattedBegun marks cells w v w') where
+  module _ (marks cells : ℕ) (w w' : Memory) (v : Result ⊤ Refusal) (f : FormattedBegun marks cells w v w') where
     format_says : (g : Journal) → Keeps w g → reply_to g (Format marks cells) ≡ format_answer marks cells w
     unfolding reply_to format_answer answer ◌when◌ room
     format_says g k =
@@ -122,10 +117,10 @@ module _ (o : List ℕ) (at r : ℕ) (o' : List ℕ) where
     unfolding reply_to answer ◌when◌ verdict_says given refused
     format_keeps g k true e =
         let says : verdict_says v ≡ refused CapacityAbove = f.says ∙ (sym (format_says g k) ∙ rw e) in
-        rw (journal_above g marks cells e, f.kept CapacityAbove (verdict_one v (Refused CapacityAbove) says)) k
+        rw (journal_above g marks cells e, f.kept CapacityAbove (verdict_one v (Err CapacityAbove) says)) k
     format_keeps g k false e =
         let says : verdict_says v ≡ given [] = f.says ∙ (sym (format_says g k) ∙ rw e) in
-        rw (journal_format g marks cells e, k.places) (f.keeps (verdict_one v Accepted says))
+        rw (journal_format g marks cells e, k.places) (f.keeps (verdict_one v (Ok tt) says))
 
     pub format_replied : Appended (written (verdict_says v)) o at r o' → FrameAnswered (Format marks cells) w o at r w' o'
     format_replied p =
@@ -134,7 +129,7 @@ module _ (o : List ℕ) (at r : ℕ) (o' : List ℕ) where
           format_keeps g k (ltb 384 marks || ltb 384 cells) refl,
         ))
 
-  pub edit_replied : (day : ℕ) (e : Edit) (v : Verdict) (w j s w' j' : List ℕ) → Entered w j (dated day e) v w' j' → Appended (written (verdict_says v)) o at r o'
+  pub edit_replied : (day : ℕ) (e : Edit) (v : Result ⊤ Refusal) (w j s w' j' : List ℕ) → Entered w j (dated day e) v w' j' → Appended (written (verdict_says v)) o at r o'
       → FrameAnswered (Change day e) (memory w j s) o at r (memory w' j' s) o'
   unfolding reply_to journal_after reach
   edit_replied day e v w j s w' j' d p =
@@ -153,17 +148,17 @@ module _ (o : List ℕ) (at r : ℕ) (o' : List ℕ) where
         },
       ))
 
-  pub bad_replied : (w : Memory) → Appended (written (verdict_says (Refused BadFrame))) o at r o' → FrameAnswered Bad w o at r w o'
+  pub bad_replied : (w : Memory) → Appended (written (verdict_says (Err BadFrame))) o at r o' → FrameAnswered Bad w o at r w o'
   unfolding journal_after
   bad_replied w a = refused_so Bad w BadFrame a (λ g k. (reply_bad g, refl))
 
   -- a question leaves the words
   module _ (f : Frame) (checks : Map → List Check) (list : Map → List ℕ) (item : ℕ → List ℕ) (lists : Lists f checks list item)
-      (w zeros out : List ℕ) (value : Value) (size : length zeros ≡ most_around) (l : Listing w checks list zeros value out) where
+      (w zeros out : List ℕ) (value : Result ℕ Refusal) (size : length zeros ≡ most_around) (l : Listing w checks list zeros value out) where
     few_places : {j s : List ℕ} (g : Journal) → Keeps (memory w j s) g → length (list (today g)) ≤ length zeros
     few_places g k = omega (arith, lists.few (today g) (keeps_wf k).sound)
 
-    pub listing_refused : (why : Refusal) → value ≡ Value'.Refused why → Appended (written (verdict_says (Refused why))) o at r o'
+    pub listing_refused : (why : Refusal) → value ≡ Err why → Appended (written (verdict_says (Err why))) o at r o'
         → QuestionAnswered f w o at r o'
     unfolding verdict_says value_says
     listing_refused why e a j s = refused_so f (memory w j s) why a (λ g k. (
@@ -172,7 +167,7 @@ module _ (o : List ℕ) (at r : ℕ) (o' : List ℕ) where
       lists.leaves g,
     ))
 
-    pub listing_replied : (n : ℕ) → value ≡ Value'.Is n → (given_out : List ℕ) (from : ℕ) → from ≡ 0 → given_out ≡ part_of out from n → length out ≤ most_around
+    pub listing_replied : (n : ℕ) → value ≡ Ok n → (given_out : List ℕ) (from : ℕ) → from ≡ 0 → given_out ≡ part_of out from n → length out ≤ most_around
         → Appended (written (given (counted item given_out))) o at r o' → QuestionAnswered f w o at r o'
     unfolding given value_says
     listing_replied n e given_out from first q few a j s = record {
@@ -191,8 +186,8 @@ module _ (o : List ℕ) (at r : ℕ) (o' : List ℕ) where
         p : given_out ≡ part_of out 0 n
         p = rw first at q
 
-  module _ (w : List ℕ) (c f : ℕ) (value none : HalfAt) (asked : Asked half_says none w (λ m. sibling_answer m c f) value) where
-    pub sibling_refused : (why : Refusal) → value ≡ HalfAt'.Refused why → Appended (written (verdict_says (Refused why))) o at r o'
+  module _ (w : List ℕ) (c f : ℕ) (value none : Result (Half × Way) Refusal) (asked : Asked half_says none w (λ m. sibling_answer m c f) value) where
+    pub sibling_refused : (why : Refusal) → value ≡ Err why → Appended (written (verdict_says (Err why))) o at r o'
         → QuestionAnswered (Sibling c f) w o at r o'
     unfolding journal_after verdict_says half_says
     sibling_refused why e a j s = refused_so (Sibling c f) (memory w j s) why a (λ g k. (
@@ -200,7 +195,7 @@ module _ (o : List ℕ) (at r : ℕ) (o' : List ℕ) where
       refl,
     ))
 
-    pub sibling_replied : (h : Half) (x : Way) → value ≡ HalfAt'.At h x → Appended (written (given (sibling_bytes h.0 (way_number x)))) o at r o'
+    pub sibling_replied : (h : Half) (x : Way) → value ≡ Ok (h, x) → Appended (written (given (sibling_bytes h.0 (way_number x)))) o at r o'
         → QuestionAnswered (Sibling c f) w o at r o'
     unfolding journal_after half_says
     sibling_replied h x e a j s = record {

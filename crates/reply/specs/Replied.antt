@@ -1,10 +1,8 @@
 -- What the answer to a frame promises.
-use Rattle.std.specs.Prelude.{◌≡◌, ◌||◌, List, [], ◌∷◌, ℕ, ◌≤◌, ltb, length}
+use Rattle.std.specs.Prelude.{◌≡◌, ◌||◌, List, [], ◌∷◌, ℕ, ◌≤◌, ltb, length, Result, ⊤, Ok, Err}
 use Rattle.numbers.specs.Room.{room}
 use Rattle.words.specs.Words.{part_of}
 use Rattle.map.specs.declared.Refusal.{Refusal}
-use Rattle.map.specs.declared.Verdict.{Verdict}
-use Rattle.map.specs.declared.Verdict.TheVariants.{Accepted, Refused}
 use Rattle.map.specs.Answers.{Answer, ◌when◌, answer}
 use Rattle.map.specs.History.{Edit}
 use Rattle.map.specs.Says.{verdict_says}
@@ -24,11 +22,11 @@ format_answer marks cells w =
     []
 
 -- "its start and each accepted f0 begin one": a mesh formatted and its journal begun, both or neither
-pub record FormattedBegun (marks cells : ℕ) (w : Memory) (r : Verdict) (w' : Memory) : Type 0 where
+pub record FormattedBegun (marks cells : ℕ) (w : Memory) (r : Result ⊤ Refusal) (w' : Memory) : Type 0 where
   pub says : verdict_says r ≡ format_answer marks cells w
-  pub kept : (why : Refusal) → r ≡ Refused why → w' ≡ w
+  pub kept : (why : Refusal) → r ≡ Err why → w' ≡ w
   pub within : Within (reach (Format marks cells) w) w w'
-  pub keeps : r ≡ Accepted → Keeps w' (begun (places_of (length w.journal)) marks cells)
+  pub keeps : r ≡ (Ok tt) → Keeps w' (begun (places_of (length w.journal)) marks cells)
 
 -- the memory w answered a frame, on any memory with the line of an answer, 775 bytes at most, appended to o; where it is that of a
 -- journal, it is the frame's answer, and what is left is the memory of the journal afterwards

@@ -18,7 +18,7 @@ use format::format;
 use frames::{Frame, read, write_cells, write_half, write_halves, write_verdict};
 use journal::{begin, enter_insert, enter_remove};
 use journal_store::HEAD_WORDS;
-use map::{HalfAt, Refusal, Value, Verdict};
+use map::Refusal;
 use numbers::{Cell, MOST_AROUND, Mark};
 use words::part;
 
@@ -35,25 +35,25 @@ pub fn format_and_begin(
     start: &mut [u32],
     marks: u32,
     cells: u32,
-) -> Verdict
+) -> Result<(), Refusal>
     ensures { FormattedBegun marks cells (memory mesh.old journal.old start.old) result (memory mesh.new journal.new start.new) }
 {
     if MOST < marks {
-        return Verdict::Refused(Refusal::CapacityAbove);
+        return Err(Refusal::CapacityAbove);
     }
     if MOST < cells {
-        return Verdict::Refused(Refusal::CapacityAbove);
+        return Err(Refusal::CapacityAbove);
     }
     if mesh.len() < ROOM {
-        return Verdict::Refused(Refusal::MemoryShort);
+        return Err(Refusal::MemoryShort);
     }
     if journal.len() < HEAD_WORDS {
-        return Verdict::Refused(Refusal::MemoryShort);
+        return Err(Refusal::MemoryShort);
     }
     if start.len() < ROOM {
-        return Verdict::Refused(Refusal::MemoryShort);
+        return Err(Refusal::MemoryShort);
     }
-    format(mesh, marks, cells);
+    let _ = format(mesh, marks, cells);
     begin(mesh, journal, start)
 }
 
@@ -111,8 +111,8 @@ fn reply_star(mesh: &[u32], d: u32, v: Mark, out: &mut [u8], at: usize) -> usize
 {
     let mut cells = [0u32; MOST_AROUND as usize];
     match listing::star(mesh, d, v, &mut cells) {
-        Value::Refused(why) => write_verdict(out, at, Verdict::Refused(why)),
-        Value::Is(n) => write_cells(out, at, part(&cells, 0, n as usize)),
+        Err(why) => write_verdict(out, at, Err(why)),
+        Ok(n) => write_cells(out, at, part(&cells, 0, n as usize)),
     }
 }
 
@@ -122,8 +122,8 @@ fn reply_anchors(mesh: &[u32], d: u32, v: Mark, out: &mut [u8], at: usize) -> us
 {
     let mut halves = [0u32; MOST_AROUND as usize];
     match listing::anchors(mesh, d, v, &mut halves) {
-        Value::Refused(why) => write_verdict(out, at, Verdict::Refused(why)),
-        Value::Is(n) => write_halves(out, at, part(&halves, 0, n as usize)),
+        Err(why) => write_verdict(out, at, Err(why)),
+        Ok(n) => write_halves(out, at, part(&halves, 0, n as usize)),
     }
 }
 
@@ -132,8 +132,8 @@ fn reply_sibling(mesh: &[u32], c: Cell, f: u32, out: &mut [u8], at: usize) -> us
     ensures { QuestionAnswered (Sibling c.0 f) mesh.now out.old at result out.new }
 {
     match ask::sibling(mesh, c, f) {
-        HalfAt::Refused(why) => write_verdict(out, at, Verdict::Refused(why)),
-        HalfAt::At(h, way) => write_half(out, at, h, way),
+        Err(why) => write_verdict(out, at, Err(why)),
+        Ok((h, way)) => write_half(out, at, h, way),
     }
 }
 
@@ -167,7 +167,7 @@ fn obey(
         Frame::Star(d, v) => reply_star(mesh, d, v, out, at),
         Frame::Anchors(d, v) => reply_anchors(mesh, d, v, out, at),
         Frame::Sibling(c, f) => reply_sibling(mesh, c, f, out, at),
-        Frame::Bad => write_verdict(out, at, Verdict::Refused(Refusal::BadFrame)),
+        Frame::Bad => write_verdict(out, at, Err(Refusal::BadFrame)),
     }
 }
 

@@ -9,10 +9,11 @@ use borrow.Author.Tests.{lt-ltb, le-ltb, eq-eqb, ne_eqb, eqb-true}
 use lib.Dec.{eqb}
 use lib.ListN.{length, get_or, take, drop, length-append, length-drop, length-reverse, get_or-append, drop_of_length-le}
 use lib.Seq.{ext_get_or, length-take-le, take_all, get_or-append-add, get_or-drop, get_or-take}
-use Rattle.lists.specs.Lists.{any, same, every, list_of}
+use Rattle.lists.specs.Lists.{same, every, list_of}
 use Rattle.lists.proofs.Bools.{not_true_false, same_test}
 use Rattle.lists.proofs.Every.{every_at, at_every, every_start, every_more, every_stop, every_end}
-use Rattle.lists.proofs.Through.{none_start, none_more, one_there, none_all}
+use Rattle.std.specs.List.{list_any, range_with_len}
+use Rattle.lists.proofs.Tested.{any_listed, range_listed}
 use Rattle.numbers.specs.declared.Caps.{Caps}
 use Rattle.shapes.specs.Table.{entry}
 use Rattle.facet.specs.Facet.{set_mark, set_in, marks_in}
@@ -148,31 +149,12 @@ module _ (b : List ℕ) (back : Bool) (n : ℕ) (a : List ℕ) where
   pub agree_end : (k : ℕ) → Agree b back n a k → k ≤ length a → length a ≤ k → true ≡ same a (turned (heading back b) n)
   agree_end k was h l = every_end (agrees b back n a) (length a) k was.places h l ∙ same_places b back n a was.size
 
--- the turns gone through one after another: none of the first n is the list
-pub record NoTurn (b : List ℕ) (back : Bool) (a : List ℕ) (n : ℕ) : Type 0 where
-  pub none : any (λ (k : ℕ). same a (turned (heading back b) k)) (list_of n (λ k. k)) ≡ false
-
-module _ (b : List ℕ) (back : Bool) (a : List ℕ) where
-  test : ℕ → Bool
-  test k = same a (turned (heading back b) k)
-
-  pub turns_start : NoTurn b back a 0
-  unfolding test
-  turns_start = record { none = none_start test (λ k. k) }
-
-  module _ (n : ℕ) (r : Bool) (was : NoTurn b back a n) (q : r ≡ same a (turned (heading back b) n)) where
-    pub turns_more : r ≡ false → NoTurn b back a (n + 1)
-    unfolding test
-    turns_more f = record { none = none_more test (λ k. k) n was.none (sym q ∙ f) }
-
-    pub turns_stop : n < length b → r ≡ true → true ≡ rotation a (heading back b)
-    unfolding rotation test
-    turns_stop h t = sym (one_there test (λ k. k) (length (heading back b)) n (omega (arith, heading_size b back)) (sym q ∙ t))
-
-  pub turns_end : (n : ℕ) → NoTurn b back a n → n ≤ length b → length b ≤ n → false ≡ rotation a (heading back b)
-  unfolding rotation test
-  turns_end n was h l =
-      none_all test (λ k. k) n (length (heading back b)) was.none (omega (arith, heading_size b back)) (omega (arith, heading_size b back))
+-- the turns gone through one after another
+pub turns : (b : List ℕ) (back : Bool) (a : List ℕ) → rotation a (heading back b) ≡ list_any (λ (k : ℕ). same a (turned (heading back b) k)) (range_with_len 0 (length b))
+unfolding rotation
+turns b back a =
+    rw (heading_size b back, range_listed (length b))
+    (any_listed (λ k. same a (turned (heading back b) k)) (range_with_len 0 (length b)))
 
 module _ (p q : Bool) where
   pub run_same : p ≡ true → Same ≡ runs p q

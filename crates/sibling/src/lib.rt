@@ -28,9 +28,8 @@ pub fn sharers(w: &[u32], caps: Caps, rows: &FacetTable, set: &[u32], out: &mut 
     ensures { Shared w.now caps rows.now set.now out.old result out.new }
 {
     let mut n: u32 = 0;
-    let mut i: u32 = 0;
     let mut link = first_of(w, caps, Mark(word(set, 0)));
-    while i < MOST_AROUND {
+    for _ in 0..MOST_AROUND {
         if link == 0 {
             return n;
         }
@@ -43,7 +42,6 @@ pub fn sharers(w: &[u32], caps: Caps, rows: &FacetTable, set: &[u32], out: &mut 
             put(out, n as usize, half.0);
             n += 1;
         }
-        i += 1;
     }
     n
 }
@@ -94,13 +92,11 @@ fn same_turned(a: &[u32], b: &[u32], n: usize, back: bool) -> bool
     if a.len() != b.len() {
         return false;
     }
-    let mut k: usize = 0;
-    while k < a.len() {
+    for (k, x) in a.iter().enumerate() {
         let at = end_place(b.len(), back, turned_place(b.len(), n, k));
-        if word(a, k) != word(b, at) {
+        if *x != word(b, at) {
             return false;
         }
-        k += 1;
     }
     true
 }
@@ -109,14 +105,7 @@ fn same_turned(a: &[u32], b: &[u32], n: usize, back: bool) -> bool
 fn rotates(a: &[u32], b: &[u32], back: bool) -> bool
     ensures { result ≡ rotation a.now (heading back b.now) }
 {
-    let mut n: usize = 0;
-    while n < b.len() {
-        if same_turned(a, b, n, back) {
-            return true;
-        }
-        n += 1;
-    }
-    false
+    (0..b.len()).any(|n| same_turned(a, b, n, back))
 }
 
 fn run_way(alike: bool, against: bool) -> Way
@@ -145,10 +134,7 @@ pub fn direction(f: u32, a: &[u32], g: u32, b: &[u32]) -> Way
 fn same_pair(a: u32, b: u32, c: u32, d: u32) -> bool
     ensures { result ≡ same (a ∷ b ∷ []) (c ∷ d ∷ []) }
 {
-    if a != c {
-        return false;
-    }
-    b == d
+    a == c && b == d
 }
 
 // Which way two edges run, each given by its type and facet and the cell's marks: two marks held to two.
@@ -198,13 +184,10 @@ fn face_beside(
 fn beside(rows: &FacetTable, t: u32, f: u32, marks: &[u32], u: u32, g: u32, others: &[u32]) -> Way
     ensures { result ≡ direction f (set_in rows.now t f marks.now) g (set_in rows.now u g others.now) }
 {
-    if column(rows, t, f, 0) != 2 {
-        return face_beside(rows, t, f, marks, u, g, others);
+    if column(rows, t, f, 0) == 2 && column(rows, u, g, 0) == 2 {
+        return edge_beside(rows, t, f, marks, u, g, others);
     }
-    if column(rows, u, g, 0) != 2 {
-        return face_beside(rows, t, f, marks, u, g, others);
-    }
-    edge_beside(rows, t, f, marks, u, g, others)
+    face_beside(rows, t, f, marks, u, g, others)
 }
 
 // Which way the half-facet x runs beside h; lone where they are one.
@@ -233,14 +216,12 @@ pub fn mend(w: &mut [u32], caps: Caps, rows: &FacetTable, set: &[u32])
 {
     let mut halves = [0u32; MOST_AROUND as usize];
     let n = sharers(w, caps, rows, set, &mut halves);
-    let mut i: u32 = 0;
-    while i < n {
+    for i in 0..n {
         let next = i + 1;
         let to = if next < n { next } else { 0 };
         let half = Half(word(&halves, i as usize));
         let after = Half(word(&halves, to as usize));
         let way = facing(w, caps, rows, half, after);
         put_sibling(w, caps, half, after, way);
-        i = next;
     }
 }

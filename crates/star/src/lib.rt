@@ -23,14 +23,12 @@ fn keep_dimension(w: &[u32], caps: Caps, d: u32, cells: &[u32], n: u32, out: &mu
     ensures { Copied (kept w.now caps d cells.now n) out.old result out.new }
 {
     let mut k: u32 = 0;
-    let mut i: u32 = 0;
-    while i < n {
+    for i in 0..n {
         let c = Cell(word(cells, i as usize));
         if dimension(code_of(w, caps, c)) == d {
             put(out, k as usize, c.0);
             k += 1;
         }
-        i += 1;
     }
     k
 }

@@ -7,3 +7,4 @@ pub mod Ways
 pub mod Opens
 pub mod Heads
 pub mod Rests
+pub mod Shut

@@ -1,10 +1,10 @@
 -- What memory is, by its head.
-use Rattle.std.specs.Prelude.{Bool, cond, ◌&&◌, List, ℕ, leb, eqb, get_or, set, length}
+use Rattle.std.specs.Prelude.{Bool, cond, ◌&&◌, List, ℕ, leb, eqb, get_or, set, length, Result, Ok, Err}
 use Rattle.numbers.specs.declared.Caps.{Caps}
 use Rattle.numbers.specs.Sizes.{most_capacity}
 use Rattle.numbers.specs.Editions.{is_edition}
-use Rattle.store.specs.declared.Opened.{Opened}
-use Rattle.store.specs.declared.Opened.TheVariants.{Mesh, Nothing}
+use Rattle.map.specs.declared.Refusal.TheVariants.{NotMesh}
+use Rattle.map.specs.declared.Refusal.{Refusal}
 use Rattle.store.specs.Layout.{room, magic}
 use Rattle.store.specs.Fields.{HeadField, Magic, MarkCap, CellCap, Edition, head_place}
 
@@ -27,8 +27,8 @@ is_mesh w =
     && (leb (head_in w MarkCap) most_capacity && (leb (head_in w CellCap) most_capacity
     && (is_edition (head_in w Edition) && leb (room (head_in w MarkCap) (head_in w CellCap)) (length w)))))
 
-unfoldable pub opened : List ℕ → Opened
-opened w = cond (is_mesh w) (Mesh (caps_in w)) Nothing
+unfoldable pub opened : List ℕ → Result Caps Refusal
+opened w = cond (is_mesh w) (Ok (caps_in w)) (Err NotMesh)
 
 -- the head of a mesh of these capacities and this edition, written
 unfoldable pub headed : List ℕ → Caps → List ℕ

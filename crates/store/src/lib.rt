@@ -16,7 +16,7 @@ ghost use Rattle.store.specs.Slots.{InHead, InMark, InCell, read, written, corne
 ghost use Rattle.store.specs.Rests.{head_blank, mark_blank, cell_blank};
 ghost use Rattle.store.specs.Open.{opened, headed};
 
-use map::{Way, way_number};
+use map::{Refusal, Way, way_number};
 use numbers::{Caps, Cell, Half, MOST_CAPACITY, Mark, cell_of, facet_of, is_edition};
 use shapes::{MOST_CODE, MOST_FACETS, MOST_MARKS};
 use words::{part, put, word};
@@ -39,13 +39,6 @@ pub const NEAR_MARKS: u32 = 4;
 // Half-facets are numbered below this, whatever the capacity.
 const PAST_HALVES: u32 = 524288;
 
-// What memory is.
-#[derive(Clone, Copy)]
-pub enum Opened {
-    Mesh(Caps),
-    Nothing,
-}
-
 // The words that a mesh of these capacities takes.
 pub fn room_of(caps: Caps) -> usize
     ensures { result ≡ room caps.marks caps.cells }
@@ -54,14 +47,14 @@ pub fn room_of(caps: Caps) -> usize
 }
 
 // Whether memory is a mesh, and its capacities.
-pub fn open(w: &[u32]) -> Opened
+pub fn open(w: &[u32]) -> Result<Caps, Refusal>
     ensures { result ≡ opened w.now }
 {
     if w.len() < HEAD {
-        return Opened::Nothing;
+        return Err(Refusal::NotMesh);
     }
     if word(w, 0) != MAGIC {
-        return Opened::Nothing;
+        return Err(Refusal::NotMesh);
     }
     let caps = Caps {
         marks: word(w, 1),
@@ -69,18 +62,18 @@ pub fn open(w: &[u32]) -> Opened
         edition: word(w, 3),
     };
     if MOST_CAPACITY < caps.marks {
-        return Opened::Nothing;
+        return Err(Refusal::NotMesh);
     }
     if MOST_CAPACITY < caps.cells {
-        return Opened::Nothing;
+        return Err(Refusal::NotMesh);
     }
     if !is_edition(caps.edition) {
-        return Opened::Nothing;
+        return Err(Refusal::NotMesh);
     }
     if w.len() < room_of(caps) {
-        return Opened::Nothing;
+        return Err(Refusal::NotMesh);
     }
-    Opened::Mesh(caps)
+    Ok(caps)
 }
 
 // The head of a mesh of these capacities; the live counts and the words that say nothing are left to the caller.
@@ -351,14 +344,7 @@ pub fn write_link(w: &mut [u32], caps: Caps, c: Cell, k: u32, x: u32)
 fn blank_at(w: &[u32], places: &[usize]) -> bool
     ensures { result ≡ all (λ i. eqb (get_or w.now i 0) 0) places.now }
 {
-    let mut i = 0;
-    while i < places.len() {
-        if word(w, places[i]) != 0 {
-            return false;
-        }
-        i += 1;
-    }
-    true
+    places.iter().all(|place| word(w, *place) == 0)
 }
 
 // Whether the words that say nothing are 0: of the head, of a mark's record, of a cell's.

@@ -11,8 +11,8 @@ use Rattle.map.specs.Cells.{Live, Map, live_cells}
 use Rattle.map.specs.Afresh.{Shuffled, build_words}
 use Rattle.map.specs.Answers.{Answer, ◌when◌, answer, format_checks}
 use Rattle.map.specs.Says.{given, built_says}
-use Rattle.map.specs.declared.Built.{Built}
-use Rattle.map.specs.declared.Built.TheVariants.{Accepted}
+use Rattle.map.specs.declared.Unbuilt.{Unbuilt}
+use Rattle.std.specs.Prelude.{Result, ⊤, Ok}
 use Rattle.map.proofs.Says.{built_one}
 use Rattle.laws.proofs.Builds.{afresh_built}
 use Rattle.picture.specs.Picture.{Wf}
@@ -31,16 +31,16 @@ format_good words caps p q i fits =
     rw (i, le-ltb most_capacity caps.marks p, le-ltb most_capacity caps.cells q, le-ltb words (room caps.marks caps.cells) fits) in
     ap (λ (a : Answer). a.refusal) passed
 
-module _ {w : List ℕ} {m : Map} (s : Story w m) (other : List Live) (order : Shuffled (live_cells m) other) {b b' : List ℕ} {r : Built}
+module _ {w : List ℕ} {m : Map} (s : Story w m) (other : List Live) (order : Shuffled (live_cells m) other) {b b' : List ℕ} {r : Result ⊤ Unbuilt}
     (builds : Builds b m.caps (build_words other) r b') (fits : room m.caps.marks m.caps.cells ≤ length b) where
   -- the capacities, the edition and the memory are good
   good : format_refusal (length b) m.caps ≡ 0
   good = format_good (length b) m.caps (story_wf s).picture.marks (story_wf s).picture.cells (story_wf s).picture.edition fits
 
   -- the build is accepted
-  pub afresh_accepted : r ≡ Accepted
+  pub afresh_accepted : r ≡ (Ok tt)
   unfolding build_answer placed built_says given
-  afresh_accepted = built_one r Accepted (builds.says ∙ rw (good, (afresh_built m (story_wf s).sound (story_wf s).two other order).0))
+  afresh_accepted = built_one r (Ok tt) (builds.says ∙ rw (good, (afresh_built m (story_wf s).sound (story_wf s).two other order).0))
 
   -- it leaves well-formed memory of the same map
   pub afresh_wf : Wf b' m

@@ -10,8 +10,9 @@ use Rattle.words.proofs.Frame.{only_none, only_one}
 use Rattle.map.specs.Cells.{Live, Map, live_cells}
 use Rattle.map.specs.Afresh.{Shuffled, build_words}
 use Rattle.map.specs.Answers.{Check, answer}
-use Rattle.map.specs.declared.Built.{Built}
-use Rattle.map.specs.declared.Value.{Value}
+use Rattle.map.specs.declared.Unbuilt.{Unbuilt}
+use Rattle.map.specs.declared.Refusal.{Refusal}
+use Rattle.std.specs.Prelude.{Result, ⊤}
 use Rattle.map.proofs.Says.{value_one}
 use Rattle.picture.specs.Picture.{Wf}
 use Rattle.picture.proofs.Put.{wf_one}
@@ -33,21 +34,21 @@ module _ {a b : List ℕ} {m : Map} (x : Wf a m) (y : Wf b m) where
   pub handed_alike : {part : Map → List ℕ} {r r' : List ℕ} → Handed a part r → Handed b part r' → r ≡ r'
   handed_alike p q = p.answers m x ∙ sym (q.answers m y)
 
-  pub listed_alike : {checks : Map → List Check} {list : Map → List ℕ} {o o' o'' : List ℕ} {r r' : Value}
+  pub listed_alike : {checks : Map → List Check} {list : Map → List ℕ} {o o' o'' : List ℕ} {r r' : Result ℕ Refusal}
       → Listing a checks list o r o' → Listing b checks list o r' o'' → (r ≡ r') × (o' ≡ o'')
   listed_alike {r = r} {r'} p q =
       let u = p.answers m x in
       let v = q.answers m y in
       (value_one r r' (u.0 ∙ sym v.0), u.1 ∙ sym v.1)
 
-  pub paired_alike : {checks : Map → List Check} {list beside : Map → List ℕ} {o p o' p' o'' p'' : List ℕ} {r r' : Value}
+  pub paired_alike : {checks : Map → List Check} {list beside : Map → List ℕ} {o p o' p' o'' p'' : List ℕ} {r r' : Result ℕ Refusal}
       → Paired a checks list beside o p r o' p' → Paired b checks list beside o p r' o'' p'' → (r ≡ r') × (o' ≡ o'') × (p' ≡ p'')
   paired_alike {r = r} {r'} p q =
       let u = p.entries.answers m x in
       let v = q.entries.answers m y in
       (value_one r r' (u.0 ∙ sym v.0), u.1 ∙ sym v.1, (p.words.answers m x).1 ∙ sym (q.words.answers m y).1)
 
-module _ {w : List ℕ} {m : Map} (s : Story w m) (other : List Live) (order : Shuffled (live_cells m) other) {b b' : List ℕ} {r : Built}
+module _ {w : List ℕ} {m : Map} (s : Story w m) (other : List Live) (order : Shuffled (live_cells m) other) {b b' : List ℕ} {r : Result ⊤ Unbuilt}
     (builds : Builds b m.caps (build_words other) r b') (fits : room m.caps.marks m.caps.cells ≤ length b) where
   -- a mesh built afresh has the same words, all over the room
   pub afresh_words : take (room m.caps.marks m.caps.cells) b' ≡ take (room m.caps.marks m.caps.cells) w
@@ -63,12 +64,12 @@ module _ {w : List ℕ} {m : Map} (s : Story w m) (other : List Live) (order : S
   afresh_handed = handed_alike (story_wf s) (afresh_wf s other order builds fits)
 
   -- gives the same list, in the same output
-  pub afresh_listed : {checks : Map → List Check} {list : Map → List ℕ} {o o' o'' : List ℕ} {x y : Value}
+  pub afresh_listed : {checks : Map → List Check} {list : Map → List ℕ} {o o' o'' : List ℕ} {x y : Result ℕ Refusal}
       → Listing w checks list o x o' → Listing b' checks list o y o'' → (x ≡ y) × (o' ≡ o'')
   afresh_listed = listed_alike (story_wf s) (afresh_wf s other order builds fits)
 
   -- and so do two lists side by side
-  pub afresh_paired : {checks : Map → List Check} {list beside : Map → List ℕ} {o p o' p' o'' p'' : List ℕ} {x y : Value}
+  pub afresh_paired : {checks : Map → List Check} {list beside : Map → List ℕ} {o p o' p' o'' p'' : List ℕ} {x y : Result ℕ Refusal}
       → Paired w checks list beside o p x o' p' → Paired b' checks list beside o p y o'' p'' → (x ≡ y) × (o' ≡ o'') × (p' ≡ p'')
   afresh_paired = paired_alike (story_wf s) (afresh_wf s other order builds fits)
 
@@ -77,7 +78,7 @@ module _ {w : List ℕ} {m : Map} (s : Story w m) (other : List Live) (order : S
   afresh_whole = whole_yes (afresh_wf s other order builds fits)
 
 -- the evening's rebuild in the afternoon's own memory, from its live cells in any order, leaves every word as it was
-pub rebuilt_in_place : {w w' : List ℕ} {m : Map} {r : Built} → Story w m → (other : List Live) → Shuffled (live_cells m) other
+pub rebuilt_in_place : {w w' : List ℕ} {m : Map} {r : Result ⊤ Unbuilt} → Story w m → (other : List Live) → Shuffled (live_cells m) other
     → Builds w m.caps (build_words other) r w' → w' ≡ w
 rebuilt_in_place s other order builds =
     only_one builds.inside only_none (afresh_words s other order builds (story_wf s).picture.fits)

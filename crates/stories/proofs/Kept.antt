@@ -22,7 +22,7 @@ use Rattle.map.specs.Answers.{Answer}
 use Rattle.map.specs.History.{Edit, cell_of, edit_body, edit_answer, changed}
 use Rattle.map.specs.Sound.{Sound}
 use Rattle.map.specs.Says.{verdict_says, given}
-use Rattle.map.specs.declared.Verdict.TheVariants.{Accepted}
+use Rattle.std.specs.Prelude.{Ok}
 use Rattle.laws.proofs.Edits.{edited_changed}
 use Rattle.laws.proofs.Local.{Apart, Free, half_other, holds_other, holders_free, half_inside, facets_lack, sibling_free, anchors_free, apart_changed}
 use Rattle.laws.proofs.FreeChanged.{free_changed}
@@ -128,7 +128,7 @@ word_kept : {w w' : List ℕ} {m m' : Map} → Wf w m → Wf w' m' → m'.caps �
 word_kept {w} {w'} {m} {m'} p q caps x h e =
     ap (λ (k : Caps). read w' k x) (sym caps) ∙ (q.picture.words x (rw caps h) ∙ (e ∙ sym (p.picture.words x h)))
 
-module _ {w w' : List ℕ} {m : Map} {e : Edit} (wf : Wf w m) (edit : Edited w e Accepted w') where
+module _ {w w' : List ℕ} {m : Map} {e : Edit} (wf : Wf w m) (edit : Edited w e (Ok tt) w') where
   -- the definition accepts the edit too
   accepted : (edit_answer m e).refusal ≡ 0
   unfolding verdict_says given

@@ -8,7 +8,8 @@ use lib.ListN.{length}
 use Rattle.map.specs.Cells.{Map}
 use Rattle.map.specs.Answers.{Check, list_answer}
 use Rattle.map.specs.Says.{value_says}
-use Rattle.map.specs.declared.Value.{Value}
+use Rattle.map.specs.declared.Refusal.{Refusal}
+use Rattle.std.specs.Prelude.{Result}
 use Rattle.picture.specs.Picture.{Wf}
 use Rattle.ask.specs.Asked.{Asked, Handed}
 use Rattle.listing.specs.Listing.{Listing, Paired, listed}
@@ -36,13 +37,13 @@ module _ {w : List ℕ} {m : Map} (s : Story w m) where
   story_handed q = q.answers m (story_wf s)
 
   -- a listing query gives the definition's list, and leaves the output with it
-  pub story_listed : {checks : Map → List Check} {list : Map → List ℕ} {o o' : List ℕ} {r : Value} → Listing w checks list o r o'
+  pub story_listed : {checks : Map → List Check} {list : Map → List ℕ} {o o' : List ℕ} {r : Result ℕ Refusal} → Listing w checks list o r o'
       → (value_says r ≡ list_answer (checks m) (list m) (length o))
       × (o' ≡ listed (list_answer (checks m) (list m) (length o)) (list m) o)
   story_listed q = q.answers m (story_wf s)
 
   -- and so do two lists side by side
-  pub story_paired : {checks : Map → List Check} {list beside : Map → List ℕ} {o p o' p' : List ℕ} {r : Value} → Paired w checks list beside o p r o' p'
+  pub story_paired : {checks : Map → List Check} {list beside : Map → List ℕ} {o p o' p' : List ℕ} {r : Result ℕ Refusal} → Paired w checks list beside o p r o' p'
       → (value_says r ≡ list_answer (checks m) (list m) (min (length o) (length p)))
       × (o' ≡ listed (list_answer (checks m) (list m) (min (length o) (length p))) (list m) o)
       × (p' ≡ listed (list_answer (checks m) (beside m) (min (length o) (length p))) (beside m) p)

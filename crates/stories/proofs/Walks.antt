@@ -16,14 +16,13 @@ use Rattle.map.specs.declared.Way.{Way}
 use Rattle.map.specs.Ways.{way_number, way}
 use Rattle.map.specs.History.{Edit, edited}
 use Rattle.map.specs.Says.{given}
-use Rattle.map.specs.declared.Verdict.{Verdict}
+use Rattle.map.specs.declared.Refusal.{Refusal}
+use Rattle.std.specs.Prelude.{Result, ⊤, Ok}
 use Rattle.map.specs.Sound.{Sound}
 use Rattle.laws.proofs.Cycles.{walk_has, walk_returns, walk_not_before}
 use Rattle.laws.proofs.Sharers.{siblings_live}
 use Rattle.picture.specs.Picture.{Wf}
 use Rattle.laws.proofs.Facets.{facets_count}
-use Rattle.ask.specs.declared.Step.{Step}
-use Rattle.ask.specs.declared.Step.TheVariants.{Next}
 use Rattle.ask.specs.declared.Walker.{Walker}
 use Rattle.ask.specs.Steps.{step_says}
 use Rattle.ask.proofs.Steps.{step_one}
@@ -46,15 +45,15 @@ step_given m s h x =
 
 module _ {w : List ℕ} {m : Map} (wf : Wf w m) where
   -- a step at a live half-facet is not refused, goes to the sibling and tells the way that it runs
-  pub step_sibling : (at : Walker) (r : Step) → Half m at.0.0 → Stepped w at r
-      → (next : Walker) × (r ≡ Next next (way m at.0.0)) × (next.0.0 ≡ sibling m at.0.0)
+  pub step_sibling : (at : Walker) (r : Result (Walker × Way) Refusal) → Half m at.0.0 → Stepped w at r
+      → (next : Walker) × (r ≡ Ok (next, (way m at.0.0))) × (next.0.0 ≡ sibling m at.0.0)
   unfolding step_says given
   step_sibling at r x q =
       let next : Walker = record { 0 = record { 0 = sibling m at.0.0 } } in
-      (next, step_one r (Next next (way m at.0.0)) (q.answers m wf ∙ step_given m wf.sound at.0.0 x), refl)
+      (next, step_one r (Ok (next, (way m at.0.0))) (q.answers m wf ∙ step_given m wf.sound at.0.0 x), refl)
 
   -- so a step that gives a place gives the sibling's
-  step_place : (at next : Walker) (ran : Way) → Half m at.0.0 → Stepped w at (Next next ran) → next.0.0 ≡ sibling m at.0.0
+  step_place : (at next : Walker) (ran : Way) → Half m at.0.0 → Stepped w at (Ok (next, ran)) → next.0.0 ≡ sibling m at.0.0
   unfolding step_says given
   step_place at next ran x q = ap (λ (a : Answer). get_or a.values 0 0) (q.answers m wf ∙ step_given m wf.sound at.0.0 x)
 
@@ -71,7 +70,7 @@ module _ {w : List ℕ} {m : Map} (wf : Wf w m) where
   walked_live {n} {from} x walked = rw (walked_walk x walked) (siblings_live m from.0.0 _ (walk_has m from.0.0 x n))
 
   -- whatever it is that steps as promised, from a live half-facet it steps on as often as is asked
-  pub walks_on : (step : Walker → Step) → ((at : Walker) → Stepped w at (step at)) → (from : Walker) → Half m from.0.0
+  pub walks_on : (step : Walker → Result (Walker × Way) Refusal) → ((at : Walker) → Stepped w at (step at)) → (from : Walker) → Half m from.0.0
       → (n : ℕ) → (to : Walker) × Walked w n from to
   walks_on step promised from x zero = (from, here)
   walks_on step promised from x (suc n) =
@@ -89,6 +88,6 @@ module _ {w : List ℕ} {m : Map} (wf : Wf w m) where
     walked_not_before {n} more less walked back = walk_not_before m from.0.0 x n more less (sym (walked_walk x walked) ∙ back)
 
 -- a step after an edit, accepted or refused, gives the sibling as it is then, or the refusal for that half-facet
-pub step_edited : {w w' : List ℕ} {m : Map} {e : Edit} {v : Verdict} → Wf w m → Edited w e v w' → (at : Walker) (r : Step) → Stepped w' at r
+pub step_edited : {w w' : List ℕ} {m : Map} {e : Edit} {v : Result ⊤ Refusal} → Wf w m → Edited w e v w' → (at : Walker) (r : Result (Walker × Way) Refusal) → Stepped w' at r
     → step_says r ≡ step_answer (edited m e) at.0.0
 step_edited wf edit at r q = q.answers _ (edit.answers _ wf).1

@@ -1,26 +1,19 @@
 -- "An OFF surface read, written as OFF by us and read again gives the same cells and positions."
 use mathlib.Core.Path.{◌≡◌, refl, sym, ap, ◌∙◌}
-use mathlib.Core.Bool.{Bool, true, false, cond}
-use mathlib.Core.List.{List, [], ◌∷◌, ◌++◌}
-use Prim.Native.Nat.{ℕ, ◌+◌, ◌*◌, ◌<◌, ◌≤◌}
+use mathlib.Core.List.{List, [], ◌∷◌}
+use Prim.Native.Nat.{ℕ, ◌*◌, ◌≤◌}
 use native.Mathlib.Omega.{arith}
-use lib.ListN.{length, get_or, take, drop}
-use lib.Seq.{take_at}
+use lib.ListN.{length, get_or, take}
 use lib.IntN.{ℤ}
-use mir.Syntax.{w16}
-use mir.Val.{SFits}
 use Rattle.numbers.specs.Sizes.{most_capacity}
-use Rattle.map.specs.Cells.{Map, map_of}
+use Rattle.map.specs.Cells.{map_of}
 use Rattle.map.specs.History.{empty, Outcome, build_from, build}
-use Rattle.picture.specs.Picture.{Wf}
 use Rattle.off.specs.Words.{Word, words_from}
 use Rattle.off.specs.Numbers.{number_of, coordinate_of, title_of}
 use Rattle.off.specs.Reading.{Read, Got, Stop, ◌then◌, one, many, faces, Surface, ended, read_words, reading}
-use Rattle.off.specs.Writing.{text_of, records_from}
-use Rattle.off.proofs.Meant.{Each}
-use Rattle.off.proofs.Round.{Face, round_trip}
+use Rattle.off.specs.Writing.{records_from}
+use Rattle.off.proofs.Round.{round_trip}
 use Rattle.surfaces.specs.ReadsOff.{caps_of, outcome}
-use Rattle.surfaces.proofs.Facing.{many_length}
 use Rattle.surfaces_out.specs.WritesOff.{faces_of, off_text}
 use Rattle.surface_stories.proofs.Told.{coordinates_told, Told, faces_told}
 use Rattle.surface_stories.proofs.Made.{MadeOf, made_faces, made_list}

@@ -1,22 +1,21 @@
 -- Nothing else fits: the promises leave one memory, one list of positions and one output.
 use mathlib.Core.Path.{◌≡◌, refl, sym, ap, ◌∙◌}
 use mathlib.Core.List.{List}
-use Prim.Native.Nat.{ℕ, ◌<◌}
+use Prim.Native.Nat.{ℕ}
 use native.Mathlib.Decide.{ℕ_discrete}
 use lib.ListN.{length}
 use lib.IntN.{ℤ}
-use Rattle.map.specs.Answers.{Answer}
+use Rattle.std.specs.Prelude.{Result}
 use Rattle.map.specs.Cells.{Map}
-use Rattle.map.specs.History.{build}
 use Rattle.laws.proofs.Edits.{build_caps}
 use Rattle.picture.specs.Picture.{Wf}
 use Rattle.picture.proofs.Put.{wf_alone}
 use Rattle.off.specs.Words.{Word}
 use Rattle.off.specs.Reading.{Read, Got, Stop, Surface, reading}
 use Rattle.surfaces.specs.ReadsOff.{surfaced_says, caps_of, room_refusal, outcome, read_answer, SurfaceLeft, ReadsOff}
-use Rattle.surfaces.specs.declared.Surfaced.{Surfaced}
+use Rattle.surfaces.specs.declared.NotRead.{NotRead}
 use Rattle.surfaces_out.specs.WritesOff.{written_says, WritesOff}
-use Rattle.surfaces_out.specs.declared.Written.{Written}
+use Rattle.surfaces_out.specs.declared.NotWritten.{NotWritten}
 
 left_alone : {s : Surface} {w a b : List ℕ} {p pa pb : List ℤ} → SurfaceLeft s w p a pa → SurfaceLeft s w p b pb → (a ≡ b) × (pa ≡ pb)
 unfolding outcome
@@ -25,7 +24,7 @@ left_alone {s} {w} {a} {b} x y = (
   x.metres ∙ sym y.metres,
 )
 
-pub read_alone : {w a b text : List ℕ} {p pa pb : List ℤ} {r t : Surfaced} → ReadsOff w p text r a pa → ReadsOff w p text t b pb
+pub read_alone : {w a b text : List ℕ} {p pa pb : List ℤ} {r t : Result (Unit {0}) NotRead} → ReadsOff w p text r a pa → ReadsOff w p text t b pb
     → (surfaced_says r ≡ surfaced_says t) × (a ≡ b) × (pa ≡ pb)
 read_alone {w} {a} {b} {text} {p} {pa} {pb} {r} {t} x y = let g = go (reading text) refl in (x.says ∙ sym y.says, g.0, g.1)
   where
@@ -42,7 +41,7 @@ answer_said : (words numbers : ℕ) (s : Surface) (us vs : List Word) → read_a
 unfolding read_answer
 answer_said words numbers s us vs = refl
 
-pub read_said : {w a b text other : List ℕ} {p pa pb : List ℤ} {r t : Surfaced} (s : Surface) (us vs : List Word)
+pub read_said : {w a b text other : List ℕ} {p pa pb : List ℤ} {r t : Result (Unit {0}) NotRead} (s : Surface) (us vs : List Word)
     → reading text ≡ Got s us → reading other ≡ Got s vs → ReadsOff w p text r a pa
     → ReadsOff w p other t b pb → (surfaced_says r ≡ surfaced_says t) × (a ≡ b) × (pa ≡ pb)
 read_said {w} {a} {b} {text} {other} {p} {pa} {pb} {r} {t} s us vs e f x y =
@@ -58,6 +57,6 @@ read_said {w} {a} {b} {text} {other} {p} {pa} {pb} {r} {t} s us vs e f x y =
     go (no n) = ((x.kept s us e n).0 ∙ sym (y.kept s vs f n).0, (x.kept s us e n).1 ∙ sym (y.kept s vs f n).1)
 
 -- of well-formed memory: what is written twice is the same text
-pub write_alone : {w o a b : List ℕ} {p : List ℤ} {r t : Written} {m : Map} → Wf w m → WritesOff w p o r a → WritesOff w p o t b
+pub write_alone : {w o a b : List ℕ} {p : List ℤ} {r t : Result ℕ NotWritten} {m : Map} → Wf w m → WritesOff w p o r a → WritesOff w p o t b
     → (written_says r ≡ written_says t) × (a ≡ b)
 write_alone {m = m} wf x y = ((x.answers m wf).0 ∙ sym (y.answers m wf).0, (x.answers m wf).1 ∙ sym (y.answers m wf).1)

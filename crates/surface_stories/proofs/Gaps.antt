@@ -3,7 +3,7 @@
 use mathlib.Core.Path.{◌≡◌, refl, sym, ap, subst, ◌∙◌}
 use mathlib.Core.Bool.{Bool, true, false}
 use mathlib.Core.List.{List, [], ◌++◌}
-use Prim.Native.Nat.{ℕ, ◌+◌, ◌*◌, ◌<◌, ◌≤◌}
+use Prim.Native.Nat.{ℕ, ◌*◌, ◌<◌, ◌≤◌}
 use native.Mathlib.Omega.{arith}
 use borrow.Author.Tests.{ltb-false}
 use lib.Dec.{ltb}
@@ -12,6 +12,7 @@ use lib.Seq.{take_at}
 use lib.IntN.{ℤ}
 use mir.Syntax.{w16}
 use mir.Val.{SFits}
+use Rattle.std.specs.Prelude.{Result, Ok, Err}
 use Rattle.lists.proofs.Select.{select_size}
 use Rattle.numbers.specs.Room.{room}
 use Rattle.numbers.specs.Sizes.{most_capacity}
@@ -27,22 +28,21 @@ use Rattle.off.specs.Writing.{records_from}
 use Rattle.off.proofs.Meant.{Each}
 use Rattle.off.proofs.Round.{round_trip}
 use Rattle.surfaces.specs.ReadsOff.{broken, surfaced_says, room_refusal, outcome, surface_answer, read_answer, positions_left, SurfaceLeft, ReadsOff}
-use Rattle.surfaces.specs.declared.Surfaced.{Surfaced}
-use Rattle.surfaces.specs.declared.Surfaced.TheVariants as Surfaced'
+use Rattle.surfaces.specs.declared.NotRead.{NotRead}
+use Rattle.surfaces.specs.declared.NotRead.TheVariants as NotRead'
 use Rattle.surfaces.proofs.Answering.{room_enough}
 use Rattle.surfaces_out.specs.WritesOff.{other_cell, faces_of, off_text, write_checks, write_answer, text_left, WritesOff}
-use Rattle.surfaces_out.specs.declared.Written.TheVariants as Written'
 use Rattle.surface_stories.specs.Renumbered.{renumbered, ReadRenumbered}
 use Rattle.surface_stories.proofs.Turned.{checked, written}
 use Rattle.surface_stories.proofs.Numbered.{live_count_lem}
 use Rattle.surface_stories.proofs.Rebuilt.{faces_count, each_face, rebuilt}
 
 -- an accepted read answers nothing else
-accepted_only : (r : Surfaced) → (surfaced_says r).refusal ≡ 0 → r ≡ Surfaced'.Accepted
+accepted_only : (r : Result (Unit {0}) NotRead) → (surfaced_says r).refusal ≡ 0 → r ≡ Ok tt
 unfolding surfaced_says broken
-accepted_only Surfaced'.Accepted e = refl
-accepted_only (Surfaced'.Broken place) e = absurd (omega (arith, e))
-accepted_only (Surfaced'.Refused why place) e = absurd (omega (arith, e, (number_back why).1))
+accepted_only (Ok _) e = refl
+accepted_only (Err (NotRead'.Broken place)) e = absurd (omega (arith, e))
+accepted_only (Err (NotRead'.Refused why place)) e = absurd (omega (arith, e, (number_back why).1))
 
 -- a write that is accepted: there are positions enough, and every live cell is a face
 checks_pass : (a b c : Bool) (k : ℕ) → (checked a b c k).refusal ≡ 0 → (a ≡ false) × (b ≡ false)
@@ -69,7 +69,7 @@ module _ (w : List ℕ) (m : Map) (wf : Wf w m) where
   few_cells : length (live_cells m) ≤ most_capacity
   few_cells = omega (arith, live_count_lem m, select_size (live m) m.caps.cells, wf.picture.cells)
 
-  module _ (positions : List ℤ) (o o' : List ℕ) (n : ℕ) (q : WritesOff w positions o (Written'.Length n) o') where
+  module _ (positions : List ℤ) (o o' : List ℕ) (n : ℕ) (q : WritesOff w positions o (Ok n) o') where
     done : ((write_answer m positions (length o)).refusal ≡ 0) × (n ≡ length (off_text m positions))
     done = written m positions o n (q.answers m wf).0
 
@@ -110,7 +110,7 @@ module _ (w : List ℕ) (m : Map) (wf : Wf w m) where
           (sym (room_enough (length v) (length metres) m.caps.marks (length (faces_of m)) wf.picture.marks (omega (arith, count, few_cells))
           (subst (λ (k : ℕ). room m.caps.marks k ≤ length v) (sym count) room-there) numbers-there))
 
-      module _ (r : Surfaced) (v' : List ℕ) (metres' : List ℤ) (x : ReadsOff v metres (take n o') r v' metres') where
+      module _ (r : Result (Unit {0}) NotRead) (v' : List ℕ) (metres' : List ℤ) (x : ReadsOff v metres (take n o') r v' metres') where
         says_none : (surfaced_says r).refusal ≡ 0
         unfolding read_answer surface_answer placed
         says_none = ap (λ (a : Answer). a.refusal) x.says ∙ rw (says_faces fit, fits, build_is.0)
@@ -137,8 +137,8 @@ module _ (w : List ℕ) (m : Map) (wf : Wf w m) where
 -- memory and any positions of 16 bits, the text that an accepted write leaves, read into memory and positions with room for it, is accepted and
 -- leaves the renumbered map
 pub gaps_closed : (w : List ℕ) (m : Map) → Wf w m → (positions : List ℤ) → Each (SFits w16) (take (3 * m.caps.marks) positions)
-    → (o o' : List ℕ) (n : ℕ) → WritesOff w positions o (Written'.Length n) o'
+    → (o o' : List ℕ) (n : ℕ) → WritesOff w positions o (Ok n) o'
     → (v : List ℕ) (metres : List ℤ) → room m.caps.marks (length (live_cells m)) ≤ length v → 3 * m.caps.marks ≤ length metres
-    → (r : Surfaced) (v' : List ℕ) (metres' : List ℤ) → ReadsOff v metres (take n o') r v' metres' → ReadRenumbered m positions v metres r v' metres'
+    → (r : Result (Unit {0}) NotRead) (v' : List ℕ) (metres' : List ℤ) → ReadsOff v metres (take n o') r v' metres' → ReadRenumbered m positions v metres r v' metres'
 gaps_closed w m wf positions fit o o' n q v metres there numbers r v' metres' x =
     read_renumbered w m wf positions o o' n q fit v metres there numbers r v' metres' x

@@ -1,6 +1,6 @@
 -- The map that a build of faces leaves, and its faces.
 use mathlib.Core.Path.{◌≡◌, refl, sym, ap, subst, ◌∙◌}
-use mathlib.Core.Bool.{Bool, true, false, cond, not}
+use mathlib.Core.Bool.{Bool, true, cond, not}
 use mathlib.Core.List.{List, [], ◌∷◌, ◌++◌, map}
 use Prim.Native.Nat.{ℕ, zero, suc, ◌+◌, ◌-◌, ◌<◌, ◌≤◌}
 use native.Mathlib.Decide.{ℕ_discrete}
@@ -12,7 +12,7 @@ use lib.Seq.{take_at, drop_at, take-suc, take_all}
 use Rattle.lists.specs.Lists.{select}
 use Rattle.shapes.specs.Shapes.{shape}
 use Rattle.map.specs.Cells.{Body, body_of, Map, Live, live, live_at, live_cells}
-use Rattle.map.specs.History.{Edit, Insert, edit_answer, put, changed, Outcome, build_from}
+use Rattle.map.specs.History.{Insert, edit_answer, put, changed, Outcome, build_from}
 use Rattle.build.proofs.Turns.{turn_end, turn_made}
 use Rattle.off.specs.Reading.{face_code}
 use Rattle.off.specs.Writing.{records_from}

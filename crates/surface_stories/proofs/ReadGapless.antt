@@ -7,13 +7,13 @@ use native.Mathlib.Omega.{arith}
 use lib.Dec.{eqb}
 use lib.ListN.{length, get_or}
 use lib.IntN.{ℤ}
+use Rattle.std.specs.Prelude.{Ok}
 use Rattle.numbers.specs.declared.Caps.{Caps}
 use Rattle.map.specs.Cells.{Body, live}
 use Rattle.off.specs.Words.{Word}
 use Rattle.off.specs.Reading.{Got, Surface, reading}
 use Rattle.off.proofs.Round.{Face}
 use Rattle.surfaces.specs.ReadsOff.{caps_of, outcome, ReadsOff}
-use Rattle.surfaces.specs.declared.Surfaced.TheVariants as Surfaced'
 use Rattle.surface_stories.specs.Renumbered.{renumbered}
 use Rattle.surface_stories.proofs.Made.{face_body, each_at, face_live}
 use Rattle.surface_stories.proofs.Again.{told, made, outcome_caps}
@@ -22,7 +22,7 @@ use Rattle.surface_stories.proofs.Gapless.{renumbered_same}
 
 -- after a read: "exactly the same where the surface was itself read from OFF", for its faces have licence 0
 pub read_gapless : (w : List ℕ) (positions : List ℤ) (text w' : List ℕ) (positions' : List ℤ)
-    → ReadsOff w positions text Surfaced'.Accepted w' positions'
+    → ReadsOff w positions text (Ok tt) w' positions'
     → (s : Surface) × (us : List Word) × (reading text ≡ Got s us) × (renumbered (outcome s).map ≡ (outcome s).map)
 unfolding live
 read_gapless w positions text w' positions' r =

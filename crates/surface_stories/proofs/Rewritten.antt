@@ -6,12 +6,12 @@ use native.Mathlib.Omega.{arith}
 use lib.ListN.{length, get_or, take, drop, length-take}
 use lib.Seq.{get_or-take, take_at}
 use lib.IntN.{ℤ, pos}
+use Rattle.std.specs.Prelude.{Result, Ok}
 use Rattle.map.specs.Cells.{Map}
 use Rattle.picture.specs.Picture.{Wf}
 use Rattle.off.specs.Writing.{vertex_line, vertex_lines, text_of}
-use Rattle.surfaces.specs.declared.Surfaced.{Surfaced}
+use Rattle.surfaces.specs.declared.NotRead.{NotRead}
 use Rattle.surfaces_out.specs.WritesOff.{faces_of, off_text, WritesOff}
-use Rattle.surfaces_out.specs.declared.Written.TheVariants as Written'
 use Rattle.surface_stories.specs.Renumbered.{renumbered, ReadRenumbered}
 use Rattle.surface_stories.proofs.Numbered.{marks_same}
 use Rattle.surface_stories.proofs.Rebuilt.{faces_renumbered}
@@ -37,9 +37,9 @@ text_same : (marks : ℕ) (a b : List ℤ) (faces : List (List ℕ)) → take (3
 unfolding text_of
 text_same marks a b faces same = rw (lines_same a b (3 * marks) same marks (omega arith))
 
-pub rewritten : (w : List ℕ) (m : Map) → Wf w m → (positions : List ℤ) (o o' : List ℕ) (n : ℕ) → WritesOff w positions o (Written'.Length n) o'
-    → (v : List ℕ) (metres : List ℤ) (r : Surfaced) (v' : List ℕ) (metres' : List ℤ) → ReadRenumbered m positions v metres r v' metres'
-    → (p p' : List ℕ) (k : ℕ) → WritesOff v' metres' p (Written'.Length k) p' → take k p' ≡ take n o'
+pub rewritten : (w : List ℕ) (m : Map) → Wf w m → (positions : List ℤ) (o o' : List ℕ) (n : ℕ) → WritesOff w positions o (Ok n) o'
+    → (v : List ℕ) (metres : List ℤ) (r : Result (Unit {0}) NotRead) (v' : List ℕ) (metres' : List ℤ) → ReadRenumbered m positions v metres r v' metres'
+    → (p p' : List ℕ) (k : ℕ) → WritesOff v' metres' p (Ok k) p' → take k p' ≡ take n o'
 unfolding off_text
 rewritten w m wf positions o o' n q v metres r v' metres' x p p' k u =
     let count : ℕ = 3 * m.caps.marks in

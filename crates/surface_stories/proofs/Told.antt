@@ -2,8 +2,7 @@
 use mathlib.Core.Path.{◌≡◌, refl, sym, ap, ◌∙◌}
 use mathlib.Core.Bool.{Bool, true, false, cond, ◌&&◌}
 use mathlib.Core.List.{List, [], ◌∷◌, ◌++◌}
-use mathlib.Core.Logic.{⊎_elim}
-use Prim.Native.Nat.{ℕ, zero, suc, ◌+◌, ◌-◌, ◌*◌, ◌<◌, ◌≤◌}
+use Prim.Native.Nat.{ℕ, zero, suc, ◌-◌, ◌<◌, ◌≤◌}
 use native.Mathlib.Omega.{arith}
 use borrow.Author.Tests.{leb-true}
 use lib.Dec.{leb, ltb}
@@ -12,16 +11,16 @@ use lib.IntN.{ℤ}
 use mir.Syntax.{w16}
 use mir.Val.{SFits}
 use Rattle.lists.specs.Lists.{all}
-use Rattle.lists.proofs.Bools.{either, and_left, and_right}
+use Rattle.lists.proofs.Bools.{and_left, and_right}
 use Rattle.off.specs.Words.{Word}
 use Rattle.off.specs.Numbers.{Says, Is, Breaks, is_digit, decimal, most_digits, number_of, coordinate_of}
-use Rattle.off.specs.Reading.{Read, Got, Stop, one, many, face_code, face, faces}
+use Rattle.off.specs.Reading.{Got, Stop, one, many, face_code, faces}
 use Rattle.off.specs.Writing.{records_from}
 use Rattle.off.proofs.Meant.{Each, none, more}
 use Rattle.off.proofs.Round.{Face}
 use Rattle.surfaces.proofs.Filling.{many_first, many_nothing, one_fits}
-use Rattle.surfaces.proofs.Facing.{one_read, many_length, size_few, Parts, face_parts}
-use Rattle.surfaces.proofs.Building.{First, faces_first, faces_nothing}
+use Rattle.surfaces.proofs.Facing.{one_read, many_length, size_few, face_parts}
+use Rattle.surfaces.proofs.Building.{faces_first, faces_nothing}
 
 -- six digits say a number below 1,000,000
 digit : (b : ℕ) → is_digit b ≡ true → b - 48 ≤ 9

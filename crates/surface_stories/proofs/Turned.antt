@@ -10,6 +10,7 @@ use lib.Dec.{ltb}
 use lib.ListN.{length, take, drop, length-append}
 use lib.Seq.{take_at}
 use lib.IntN.{ℤ}
+use Rattle.std.specs.Prelude.{Ok}
 use Rattle.numbers.specs.Sizes.{most_capacity}
 use Rattle.numbers.specs.declared.Caps.{Caps}
 use Rattle.map.specs.Cells.{Map}
@@ -19,10 +20,8 @@ use Rattle.build.specs.Builds.{placed}
 use Rattle.off.specs.Words.{Word}
 use Rattle.off.specs.Reading.{Read, Got, Stop, Surface, reading}
 use Rattle.surfaces.specs.ReadsOff.{broken, surfaced_says, caps_of, room_refusal, outcome, surface_answer, read_answer, positions_left, ReadsOff}
-use Rattle.surfaces.specs.declared.Surfaced.TheVariants as Surfaced'
 use Rattle.surfaces.proofs.Facing.{many_length}
 use Rattle.surfaces_out.specs.WritesOff.{other_cell, off_text, write_checks, write_answer, written_says, text_left, WritesOff}
-use Rattle.surfaces_out.specs.declared.Written.TheVariants as Written'
 use Rattle.off.specs.Numbers.{coordinate_of}
 use Rattle.surface_stories.proofs.Again.{stands, outcome_caps, read_again}
 
@@ -42,7 +41,7 @@ pub record Accepted (w : List ℕ) (positions : List ℤ) (text : List ℕ) : Ty
   pub room : room_refusal (length w) (length positions) surface ≡ 0
   pub built : (outcome surface).refusal ≡ 0
 
-pub accepted : (w : List ℕ) (positions : List ℤ) (text w' : List ℕ) (positions' : List ℤ) → ReadsOff w positions text Surfaced'.Accepted w' positions' → Accepted w positions text
+pub accepted : (w : List ℕ) (positions : List ℤ) (text w' : List ℕ) (positions' : List ℤ) → ReadsOff w positions text (Ok tt) w' positions' → Accepted w positions text
 unfolding surfaced_says read_answer given broken
 accepted w positions text w' positions' r = go (reading text) refl r.says
   where
@@ -63,15 +62,15 @@ all_pass false true c n k q = let z : ◌≡◌ {A = ℕ} 0 18 = ap (λ (a : Ans
 all_pass false false true n k q = let z : ◌≡◌ {A = ℕ} 0 12 = ap (λ (a : Answer). a.refusal) q in absurd (omega arith)
 all_pass false false false n k q = let z : n ∷ [] ≡ k ∷ [] = ap (λ (a : Answer). a.values) q in (refl, cc)
 
-pub written : (m : Map) (positions : List ℤ) (o : List ℕ) (n : ℕ) → written_says (Written'.Length n) ≡ write_answer m positions (length o)
+pub written : (m : Map) (positions : List ℤ) (o : List ℕ) (n : ℕ) → written_says (Ok n) ≡ write_answer m positions (length o)
     → ((write_answer m positions (length o)).refusal ≡ 0) × (n ≡ length (off_text m positions))
 unfolding written_says write_answer list_answer write_checks
 written m positions o n e =
     all_pass (ltb (length positions) (3 * m.caps.marks)) (other_cell m) (ltb (length o) (length (off_text m positions))) n (length (off_text m positions)) e
 
 -- "An OFF surface read, written as OFF by us and read again gives the same cells and positions.": the text that is written says the same surface
-pub turned : (w : List ℕ) (positions : List ℤ) (text w' : List ℕ) (positions' : List ℤ) → ReadsOff w positions text Surfaced'.Accepted w' positions'
-    → (o o' : List ℕ) (n : ℕ) → WritesOff w' positions' o (Written'.Length n) o'
+pub turned : (w : List ℕ) (positions : List ℤ) (text w' : List ℕ) (positions' : List ℤ) → ReadsOff w positions text (Ok tt) w' positions'
+    → (o o' : List ℕ) (n : ℕ) → WritesOff w' positions' o (Ok n) o'
     → (s : Surface) × (us : List Word) × (reading text ≡ Got s us) × (reading (take n o') ≡ Got s [])
 unfolding positions_left text_left
 turned w positions text w' positions' r o o' n q =

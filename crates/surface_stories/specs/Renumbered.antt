@@ -1,12 +1,11 @@
 -- A surface whose cell numbers have gaps, written as OFF and read: "faces cells 0, 1, 2 in file order".
-use Rattle.std.specs.Prelude.{◌≡◌, List, map, ◌++◌, ℕ, ◌*◌, ◌<◌, length, get_or, take, drop, ℤ}
+use Rattle.std.specs.Prelude.{◌≡◌, List, map, ◌++◌, ℕ, ◌*◌, ◌<◌, length, get_or, take, drop, ℤ, Result, Ok}
 use Rattle.numbers.specs.Room.{room}
 use Rattle.numbers.specs.Sizes.{capacities}
 use Rattle.words.specs.Words.{Only}
 use Rattle.map.specs.Cells.{Body, body_of, Live, Map, no_cell, live_cells}
 use Rattle.picture.specs.Picture.{Wf}
-use Rattle.surfaces.specs.declared.Surfaced.{Surfaced}
-use Rattle.surfaces.specs.declared.Surfaced.TheVariants.{Accepted}
+use Rattle.surfaces.specs.declared.NotRead.{NotRead}
 
 -- the cell without its licence, for which OFF has no place: "for a face read from OFF, means 0"
 abbrev pub unlicensed : Body → Body
@@ -21,9 +20,9 @@ renumbered m = record {
 }
 
 -- what a read of the written text answers and leaves
-pub record ReadRenumbered (m : Map) (written : List ℤ) (w : List ℕ) (positions : List ℤ) (r : Surfaced) (w' : List ℕ) (positions' : List ℤ)
+pub record ReadRenumbered (m : Map) (written : List ℤ) (w : List ℕ) (positions : List ℤ) (r : Result (Unit {0}) NotRead) (w' : List ℕ) (positions' : List ℤ)
     : Type 0 where
-  pub answered : r ≡ Accepted
+  pub answered : r ≡ Ok tt
   pub wf : Wf w' (renumbered m)
   pub inside : Only (λ i. i < room m.caps.marks (length (live_cells m))) w w'
   -- three numbers a mark as they were written; behind them the positions stay

@@ -1,23 +1,21 @@
 -- Faces inserted one after another are the build of their records.
 use mathlib.Core.Path.{◌≡◌, refl, sym, ap, subst, ◌∙◌}
 use mathlib.Core.List.{List, [], ◌∷◌, ◌++◌}
-use Prim.Native.Nat.{ℕ, zero, suc, ◌+◌, ◌-◌, ◌<◌, ◌≤◌, min}
+use Rattle.std.specs.Prelude.{Result, Ok, Err, ⊤}
+use Prim.Native.Nat.{ℕ, suc, ◌+◌, ◌-◌, ◌<◌, ◌≤◌, min}
 use native.Mathlib.Numerals.{add-one}
 use native.Mathlib.Omega.{arith}
 use lib.ListN.{length, get_or, take, drop, length-append, length-drop}
 use lib.Seq.{take_at, drop_at, drop-drop, get_or-drop}
-use Rattle.numbers.specs.Sizes.{capacities, caps_under}
-use Rattle.numbers.specs.Room.{room}
+use Rattle.numbers.specs.Sizes.{caps_under}
 use Rattle.numbers.specs.declared.Caps.{Caps}
-use Rattle.words.specs.Words.{Only, part_of}
+use Rattle.words.specs.Words.{part_of}
 use Rattle.words.proofs.Fits.{part_fits}
 use Rattle.shapes.specs.Shapes.{shape}
 use Rattle.map.specs.Cells.{body_of}
 use Rattle.map.specs.History.{Insert}
 use Rattle.map.specs.declared.Refusal.{Refusal}
-use Rattle.map.specs.declared.Verdict.{Verdict}
-use Rattle.map.specs.declared.Verdict.TheVariants.{Accepted, Refused}
-use Rattle.map.specs.declared.Built.TheVariants as Built'
+use Rattle.map.specs.Says.{RefusedAt}
 use Rattle.format.specs.Formatted.{Formatted}
 use Rattle.mesh.specs.Edited.{Edited}
 use Rattle.build.specs.Builds.{Builds}
@@ -25,13 +23,11 @@ use Rattle.build.specs.Recorded.{width, Recorded}
 use Rattle.build.proofs.Records.{record_made}
 use Rattle.build.proofs.Going.{Going, going_start, build_done, build_stopped, going_refused, going_next}
 use Rattle.off.specs.Words.{Word}
-use Rattle.off.specs.Reading.{Read, Got, Stop, ◌then◌, one, many, face_code, face, faces}
-use Rattle.off.specs.Numbers.{number_of, size_of}
+use Rattle.off.specs.Reading.{Read, Got, Stop, ◌then◌, face_code, face, faces}
+use Rattle.off.specs.Numbers.{number_of}
 use Rattle.off.specs.declared.Cursor.{Cursor}
 use Rattle.off_form.specs.Took.{left}
 use Rattle.surfaces.specs.Passes.{FaceInserted}
-use Rattle.surfaces.specs.declared.Faced.{Faced}
-use Rattle.surfaces.specs.declared.Faced.TheVariants as Faced'
 use Rattle.surfaces.proofs.Facing.{many_length, size_few, face_marks, Parts, face_parts}
 
 -- the first of some faces that were read
@@ -100,7 +96,7 @@ module _ (records : List ℕ) (i c size : ℕ) (marks others : List ℕ) (e : dr
       sym (drop-drop (3 + size) i records)
       ∙ (ap (drop (3 + size)) e ∙ drop_at (c ∷ face_code size ∷ 0 ∷ marks) others (3 + size) (omega (arith, n)))
 
-  pub record_inserted : (w : List ℕ) (v : Verdict) (w' : List ℕ) → Edited w (Insert c (body_of (face_code size) marks)) v w' → Recorded w records i (i + (3 + size)) v w'
+  pub record_inserted : (w : List ℕ) (v : Result ⊤ Refusal) (w' : List ℕ) → Edited w (Insert c (body_of (face_code size) marks)) v w' → Recorded w records i (i + (3 + size)) v w'
   record_inserted w v w' d =
       record_made w records i (i + (3 + size)) c (face_code size) (i + 1) 0 (i + 2) (i + 3) (i + (3 + size) - 3 - i) marks (omega arith) number typed refl licensed refl named refl refl v w' d
 
@@ -112,7 +108,7 @@ pub record FacesGoing (w₁ text : List ℕ) (caps : Caps) (n from at c : ℕ) (
       → (i : ℕ) × Going w₁ caps records i c w × (faces (length text) (n - c) c (left text at) ≡ Got (drop i records) [])
 
 module _ (text : List ℕ) (caps : Caps) (n from : ℕ) where
-  module _ (w₀ w₁ : List ℕ) (v : Verdict) (f : Formatted w₀ caps v w₁) (ok : v ≡ Accepted) where
+  module _ (w₀ w₁ : List ℕ) (v : Result ⊤ Refusal) (f : Formatted w₀ caps v w₁) (ok : v ≡ (Ok tt)) where
     pub faces_begin : FacesGoing w₁ text caps n from from 0 w₁
     faces_begin = record {
       size = refl;
@@ -123,14 +119,14 @@ module _ (text : List ℕ) (caps : Caps) (n from : ℕ) where
     }
 
     module _ (at c : ℕ) (w : List ℕ) (g : FacesGoing w₁ text caps n from at c w) where
-      pub faces_built : n ≤ c → (records : List ℕ) → faces (length text) n 0 (left text from) ≡ Got records [] → Builds w₀ caps records Built'.Accepted w
+      pub faces_built : n ≤ c → (records : List ℕ) → faces (length text) n 0 (left text from) ≡ Got records [] → Builds w₀ caps records (Ok tt) w
       faces_built h records r =
           let s = g.going records r in
           let z : n - c ≡ 0 = omega arith in
           let none : drop s.0 records ≡ [] = faces_nothing (length text) c (drop s.0 records) (left text at) [] (rw z at s.2) in
           build_done caps records w₀ w₁ v f ok s.0 c w s.1 (omega (arith, length-drop s.0 records, ap length none))
 
-      module _ (h : c < n) (r : Faced) (w' : List ℕ) (did : FaceInserted w text at c r w') where
+      module _ (h : c < n) (r : Result Cursor Refusal) (w' : List ℕ) (did : FaceInserted w text at c r w') where
         -- the face and its record
         module _ (records : List ℕ) (e : faces (length text) n 0 (left text from) ≡ Got records []) where
           abbrev i : ℕ
@@ -156,27 +152,27 @@ module _ (text : List ℕ) (caps : Caps) (n from : ℕ) where
           words : drop i records ≡ (c ∷ face_code size ∷ 0 ∷ parts.marks) ++ first.others
           words = first.is ∙ ap (λ (l : List ℕ). l ++ first.others) parts.is
 
-          same : (u : Verdict) → Edited w (Insert c (body_of (get_or first.record' 1 0) (drop 3 first.record'))) u w'
+          same : (u : Result ⊤ Refusal) → Edited w (Insert c (body_of (get_or first.record' 1 0) (drop 3 first.record'))) u w'
               → Edited w (Insert c (body_of (face_code size) parts.marks)) u w'
           same u d = subst (λ (l : List ℕ). Edited w (Insert c (body_of (get_or l 1 0) (drop 3 l))) u w') parts.is d
 
-          recorded : (u : Verdict) → Edited w (Insert c (body_of (get_or first.record' 1 0) (drop 3 first.record'))) u w'
+          recorded : (u : Result ⊤ Refusal) → Edited w (Insert c (body_of (get_or first.record' 1 0) (drop 3 first.record'))) u w'
               → Recorded w records i (i + (3 + size)) u w'
           recorded u d = record_inserted records i c size parts.marks first.others words count few.0 few.1 w u w' (same u d)
 
         -- a face refused, and the memory formatted again
-        pub faces_stopped : (why : Refusal) → r ≡ Faced'.Refused why → (again : Verdict) (w'' : List ℕ) (p q k : ℕ) → Formatted w' (caps_under p q k) again w''
+        pub faces_stopped : (why : Refusal) → r ≡ Err why → (again : Result ⊤ Refusal) (w'' : List ℕ) (p q k : ℕ) → Formatted w' (caps_under p q k) again w''
             → p ≡ caps.edition → q ≡ caps.marks → k ≡ caps.cells → (place : ℕ) → place ≡ c
-            → (records : List ℕ) → faces (length text) n 0 (left text from) ≡ Got records [] → Builds w₀ caps records (Built'.Refused why place) w''
+            → (records : List ℕ) → faces (length text) n 0 (left text from) ≡ Got records [] → Builds w₀ caps records (RefusedAt why place) w''
         faces_stopped why q again w'' ed mk cl second ee em ec place ep records e =
             let d = did.refused (first records e).record' (first records e).behind (first records e).here why q in
             let there = record_there records (i records e) c (size records e) (parts records e).marks (first records e).others (words records e) (count records e) (few records e).0 (few records e).1 in
             let ends = record_ends records (i records e) c (size records e) (parts records e).marks (first records e).others (words records e) (count records e) (few records e).0 (few records e).1 in
-            let s = going_refused caps records w₁ (i records e) c w (g.going records e).1 there (i records e + (3 + size records e)) ends (Refused why) w' (recorded records e (Refused why) d) why refl in
+            let s = going_refused caps records w₁ (i records e) c w (g.going records e).1 there (i records e + (3 + size records e)) ends (Err why) w' (recorded records e (Err why) d) why refl in
             build_stopped caps records w₀ w₁ v f ok why c s.0 w' w'' s.1 again ed mk cl second ee em ec place ep
 
         -- a face inserted
-        pub faces_next : (k : Cursor) → r ≡ Faced'.Made k → (c' : ℕ) → c' ≡ c + 1 → FacesGoing w₁ text caps n from k.at c' w'
+        pub faces_next : (k : Cursor) → r ≡ Ok k → (c' : ℕ) → c' ≡ c + 1 → FacesGoing w₁ text caps n from k.at c' w'
         faces_next k q c' ec = record {
           size = did.size ∙ g.size;
           few = omega arith;
@@ -187,7 +183,7 @@ module _ (text : List ℕ) (caps : Caps) (n from : ℕ) where
               let rest = record_left records (i records e) c (size records e) (parts records e).marks (first records e).others (words records e) (count records e) (few records e).0 (few records e).1 in
               let more : c' ≡ suc c = ec ∙ add-one c in (
                 i records e + (3 + size records e),
-                going_next caps records w₁ (i records e) c w (g.going records e).1 there (i records e + (3 + size records e)) ends Accepted w' (recorded records e Accepted d.0) refl
+                going_next caps records w₁ (i records e) c w (g.going records e).1 there (i records e + (3 + size records e)) ends (Ok tt) w' (recorded records e (Ok tt) d.0) refl
                     (i records e + (3 + size records e)) c' refl ec,
                 rw (more, rest, d.1) (first records e).after,
               );

@@ -1,9 +1,10 @@
 -- A face of the text, and its insertion.
-use mathlib.Core.Path.{◌≡◌, refl, sym, ap, subst, ◌∙◌}
-use mathlib.Core.Bool.{Bool, true, false, ◌||◌}
-use mathlib.Core.List.{List, [], ◌∷◌, ◌++◌}
-use Prim.Native.Nat.{ℕ, zero, suc, ◌+◌, ◌-◌, ◌<◌, ◌≤◌}
-use native.Mathlib.Decide.{dec_lt, ℕ_discrete}
+use mathlib.Core.Path.{◌≡◌, refl, sym, ap, ◌∙◌}
+use mathlib.Core.Bool.{true, ◌||◌}
+use mathlib.Core.List.{List, [], ◌∷◌}
+use Rattle.std.specs.Prelude.{Ok, Err, Result, ⊤}
+use Prim.Native.Nat.{ℕ, zero, suc, ◌+◌, ◌-◌, ◌≤◌}
+use native.Mathlib.Decide.{ℕ_discrete}
 use native.Mathlib.Omega.{arith}
 use borrow.Author.Tests.{ne_eqb}
 use lib.Dec.{eqb}
@@ -12,20 +13,16 @@ use lib.Seq.{sets, sets-eq, take_at, length-sets}
 use Rattle.words.specs.Words.{part_of}
 use Rattle.words.proofs.Fits.{part_fits}
 use Rattle.shapes.specs.Shapes.{shapes, shape}
-use Rattle.map.specs.Cells.{Body, body_of}
-use Rattle.map.specs.History.{Edit, Insert}
+use Rattle.map.specs.Cells.{body_of}
+use Rattle.map.specs.History.{Insert}
 use Rattle.map.specs.declared.Refusal.{Refusal}
-use Rattle.map.specs.declared.Refusal.TheVariants.{CountWrong}
-use Rattle.map.specs.declared.Verdict.{Verdict}
-use Rattle.map.specs.declared.Verdict.TheVariants as Verdict'
 use Rattle.mesh.specs.Edited.{Edited}
 use Rattle.off.specs.Words.{Word}
 use Rattle.off.specs.Numbers.{Says, Is, Breaks, number_of, three_or_four, size_of}
-use Rattle.off.specs.Reading.{Read, Got, Stop, ◌then◌, one, many, face_code, face, faces}
+use Rattle.off.specs.Reading.{Read, Got, Stop, ◌then◌, one, many, face_code, face}
 use Rattle.off.specs.declared.Cursor.{Cursor}
 use Rattle.off_form.specs.Took.{left}
 use Rattle.surfaces.specs.Passes.{MarksRead, FaceInserted}
-use Rattle.surfaces.specs.declared.Faced.TheVariants as Faced'
 use Rattle.surfaces.proofs.Filling.{many_first, many_some, many_nothing}
 
 -- as many are read as were asked for
@@ -106,7 +103,7 @@ marks_part_lem o l n e h =
     ∙ (ap (λ (k : List ℕ). take n (drop 0 k)) (sets-eq l o 0 (omega arith)) ∙ take_at l (drop (0 + length l) o) n e)
 
 module _ (w text : List ℕ) (from c : ℕ) where
-  pub inserted_none : (p : ℕ) → one size_of (length text) (left text from) ≡ Stop p → (why : Refusal) → FaceInserted w text from c (Faced'.Refused why) w
+  pub inserted_none : (p : ℕ) → one size_of (length text) (left text from) ≡ Stop p → (why : Refusal) → FaceInserted w text from c (Err why) w
   inserted_none p e why = record {
     size = refl;
     refused = λ x ws f other z.
@@ -118,7 +115,7 @@ module _ (w text : List ℕ) (from c : ℕ) where
 
   module _ (n behind : ℕ) (e : one size_of (length text) (left text from) ≡ Got n (left text behind))
       (out out' : List ℕ) (next : ℕ) (reads : MarksRead text behind n out next out') (big : 4 ≤ length out)
-      (t : ℕ) (et : t ≡ n - 1) (marks : List ℕ) (em : marks ≡ part_of out' 0 n) (v : Verdict) (w' : List ℕ) (edited : Edited w (Insert c (body_of t marks)) v w') where
+      (t : ℕ) (et : t ≡ n - 1) (marks : List ℕ) (em : marks ≡ part_of out' 0 n) (v : Result ⊤ Refusal) (w' : List ℕ) (edited : Edited w (Insert c (body_of t marks)) v w') where
     -- the face as the text has it
     module _ (x : List ℕ) (ws : List Word) (f : face (length text) c (left text from) ≡ Got x ws) where
       parts : Parts (length text) c x (left text from) ws
@@ -149,14 +146,14 @@ module _ (w text : List ℕ) (from c : ℕ) where
       same : Edited w (Insert c (body_of (get_or x 1 0) (drop 3 x))) v w'
       same = rw (← typed, ← named) edited
 
-    pub inserted_refused : (why : Refusal) → v ≡ Verdict'.Refused why → FaceInserted w text from c (Faced'.Refused why) w'
+    pub inserted_refused : (why : Refusal) → v ≡ Err why → FaceInserted w text from c (Err why) w'
     inserted_refused why q = record {
       size = edited.inside.size;
-      refused = λ x ws f other z. let eq : v ≡ Verdict'.Refused other = cc in rw (← eq) (same x ws f);
+      refused = λ x ws f other z. let eq : v ≡ Err other = cc in rw (← eq) (same x ws f);
       made = λ x ws f at z. let o : ◌≡◌ {A = ℕ} 0 1 = cc in absurd (omega arith);
     }
 
-    pub inserted_made : v ≡ Verdict'.Accepted → (at : Cursor) → at.at ≡ next → FaceInserted w text from c (Faced'.Made at) w'
+    pub inserted_made : v ≡ (Ok tt) → (at : Cursor) → at.at ≡ next → FaceInserted w text from c (Ok at) w'
     inserted_made q at ea = record {
       size = edited.inside.size;
       refused = λ x ws f other z. let o : ◌≡◌ {A = ℕ} 0 1 = cc in absurd (omega arith);

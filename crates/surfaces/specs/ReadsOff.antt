@@ -1,5 +1,5 @@
 -- What reading a surface answers and leaves, on any memory, any positions and any text.
-use Rattle.std.specs.Prelude.{◌≡◌, cond, List, [], ◌∷◌, ◌++◌, ℕ, ◌*◌, ◌<◌, eqb, ltb, length, drop, ℤ}
+use Rattle.std.specs.Prelude.{◌≡◌, cond, List, [], ◌∷◌, ◌++◌, ℕ, ◌*◌, ◌<◌, eqb, ltb, length, drop, ℤ, Result, Ok, Err}
 use Rattle.numbers.specs.Room.{room}
 use Rattle.numbers.specs.Sizes.{capacities}
 use Rattle.numbers.specs.declared.Caps.{Caps}
@@ -11,17 +11,17 @@ use Rattle.picture.specs.Picture.{Wf}
 use Rattle.build.specs.Builds.{placed}
 use Rattle.off.specs.Words.{Word}
 use Rattle.off.specs.Reading.{Read, Got, Stop, Surface, reading}
-use Rattle.surfaces.specs.declared.Surfaced as Surfaced
-use Rattle.surfaces.specs.declared.Surfaced.TheVariants as Surfaced'
+use Rattle.surfaces.specs.declared.NotRead.{NotRead}
+use Rattle.surfaces.specs.declared.NotRead.TheVariants as NotRead'
 
 -- "17 .. with the byte place of the first word that breaks this form, or the length of a text that ends early"
 unfoldable pub broken : ℕ → Answer
 broken place = record { refusal = 17; values = place ∷ [] }
 
-unfoldable pub surfaced_says : Surfaced.Surfaced → Answer
-surfaced_says Surfaced'.Accepted = given []
-surfaced_says (Surfaced'.Broken place) = broken place
-surfaced_says (Surfaced'.Refused why place) = record { refusal = number_of why; values = place ∷ [] }
+unfoldable pub surfaced_says : Result (Unit {0}) NotRead → Answer
+surfaced_says (Ok _) = given []
+surfaced_says (Err (NotRead'.Broken place)) = broken place
+surfaced_says (Err (NotRead'.Refused why place)) = record { refusal = number_of why; values = place ∷ [] }
 
 -- "the first two counts become the capacities"; "request 7's read mean[s] edition 1"
 abbrev pub caps_of : Surface → Caps
@@ -58,7 +58,7 @@ pub record SurfaceLeft (s : Surface) (w : List ℕ) (positions : List ℤ) (w' :
   pub wf : Wf w' (outcome s).map
   pub metres : positions' ≡ positions_left s positions
 
-pub record ReadsOff (w : List ℕ) (positions : List ℤ) (text : List ℕ) (r : Surfaced.Surfaced) (w' : List ℕ) (positions' : List ℤ) : Type 0 where
+pub record ReadsOff (w : List ℕ) (positions : List ℤ) (text : List ℕ) (r : Result (Unit {0}) NotRead) (w' : List ℕ) (positions' : List ℤ) : Type 0 where
   pub says : surfaced_says r ≡ read_answer (length w) (length positions) (reading text)
   -- 17, 1, 2 and 16 change nothing
   pub broke : (place : ℕ) → reading text ≡ Stop place → (w' ≡ w) × (positions' ≡ positions)

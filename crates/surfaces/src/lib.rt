@@ -15,134 +15,109 @@ ghost use Rattle.off_form.specs.Took.{left};
 ghost use Rattle.map.specs.Answers.{answer};
 ghost use Rattle.map.specs.Says.{verdict_says};
 ghost use Rattle.surfaces.specs.ReadsOff.{room_checks, ReadsOff};
-ghost use Rattle.surfaces.specs.Passes.{MarksRead, PositionsRead, FaceInserted};
+ghost use Rattle.surfaces.specs.declared.NotRead.TheVariants.{Broken};
+ghost use Rattle.surfaces.specs.Passes.{WordsRead, FaceInserted};
 
 use format::format;
-use map::{Built, Refusal, Verdict};
+use map::{Refusal, Unbuilt};
 use mesh::insert;
 use numbers::{Caps, Cell, FIRST_EDITION, MOST_CAPACITY};
 use off::Cursor;
-use off_form::{
-    Shape, TookCoordinate, TookNumber, form_of, take_coordinate, take_number, take_size,
-};
+use off_form::{Broken, Coordinate, Kind, Number, Size, form_of, take};
 use store::room_of;
-use words::{part, put};
+use words::part;
 
-// A surface read, or refused: 17 with the place of the text, the build's own with the face's place, from 0.
+// Why no surface is read: 17 with the place of the text, or the build's own with the face's place, from 0.
 #[derive(Clone, Copy)]
-pub enum Surfaced {
-    Accepted,
+pub enum NotRead {
     Broken(usize),
     Refused(Refusal, u32),
+}
+
+impl From<Broken> for NotRead {
+    ghost from_gives = { λ broken why. why ≡ Broken broken.place };
+
+    fn from(broken: Broken) -> NotRead {
+        NotRead::Broken(broken.place)
+    }
 }
 
 // A face has three or four marks.
 const MOST_FACE: usize = 4;
 
-// A face inserted, with the cursor behind it, or refused.
-#[derive(Clone, Copy)]
-enum Faced {
-    Made(Cursor),
-    Refused(Refusal),
-}
-
-// So many marks from a cursor on, in the first places of out; the cursor behind them.
-fn read_marks(text: &[u8], from: Cursor, n: u32, out: &mut [u32]) -> Cursor
-    ensures { MarksRead text.now from.at n out.old result.at out.new }
+// A value of a list; beyond the end nothing is written.
+fn put_value<T: Copy>(out: &mut [T], at: usize, value: T)
+    ensures { out.new ≡ set out.old at value }
 {
-    let mut at = from.at;
-    let mut i: u32 = 0;
-    while i < n {
-        match take_number(text, Cursor { at }) {
-            TookNumber::Stop(_) => return Cursor { at },
-            TookNumber::Is(v, behind) => {
-                put(out, i as usize, v);
-                at = behind.at;
-                i += 1;
-            }
-        }
+    if at < out.len() {
+        out[at] = value;
     }
-    Cursor { at }
 }
 
-// The face at a cursor, inserted under a number.
-fn insert_face(w: &mut [u32], text: &[u8], from: Cursor, c: Cell) -> Faced
+// So many words of a kind from a cursor on, in the first places of out; the cursor behind them.
+fn read_words<K: Kind>(text: &[u8], from: Cursor, n: usize, out: &mut [K::Value]) -> Cursor
+    ensures { WordsRead K.says text.now from.at n out.old result.at out.new }
+{
+    let mut at = from;
+    for i in 0..n {
+        let Ok(word) = take::<K>(text, at) else {
+            return at;
+        };
+        put_value(out, i, word.0);
+        at = word.1;
+    }
+    at
+}
+
+// The face at a cursor, inserted under a number; the cursor behind it.
+fn insert_face(w: &mut [u32], text: &[u8], from: Cursor, c: Cell) -> Result<Cursor, Refusal>
     ensures { FaceInserted w.old text.now from.at c.0 result w.new }
 {
-    match take_size(text, from) {
-        TookNumber::Stop(_) => Faced::Refused(Refusal::CountWrong),
-        TookNumber::Is(size, behind) => {
-            let mut marks = [0u32; MOST_FACE];
-            let next = read_marks(text, behind, size, &mut marks);
-            match insert(w, c, size - 1, part(&marks, 0, size as usize)) {
-                Verdict::Refused(why) => Faced::Refused(why),
-                Verdict::Accepted => Faced::Made(next),
-            }
-        }
-    }
+    let Ok((size, behind)) = take::<Size>(text, from) else {
+        return Err(Refusal::CountWrong);
+    };
+    let mut marks = [0u32; MOST_FACE];
+    let next = read_words::<Number>(text, behind, size as usize, &mut marks);
+    insert(w, c, size - 1, part(&marks, 0, size as usize))?;
+    Ok(next)
 }
 
 // A mesh of these capacities with the faces from a cursor on, as if built from their records.
-fn build_faces(w: &mut [u32], text: &[u8], from: Cursor, marks: u32, cells: u32) -> Built
+fn build_faces(
+    w: &mut [u32],
+    text: &[u8],
+    from: Cursor,
+    marks: u32,
+    cells: u32,
+) -> Result<(), Unbuilt>
     ensures { (records : List ℕ) → faces (length text.now) cells 0 (left text.now from.at) ≡ Got records []
         → Builds w.old (capacities marks cells) records result w.new }
 {
-    if let Verdict::Refused(why) = format(w, marks, cells) {
-        return Built::Refused(why, 0);
+    if let Err(why) = format(w, marks, cells) {
+        return Err(Unbuilt { why, place: 0 });
     }
-    let mut at = from.at;
-    let mut c: u32 = 0;
-    while c < cells {
-        match insert_face(w, text, Cursor { at }, Cell(c)) {
-            Faced::Refused(why) => {
-                format(w, marks, cells);
-                return Built::Refused(why, c);
+    let mut at = from;
+    for c in 0..cells {
+        match insert_face(w, text, at, Cell(c)) {
+            Err(why) => {
+                let _ = format(w, marks, cells);
+                return Err(Unbuilt { why, place: c });
             }
-            Faced::Made(behind) => {
-                at = behind.at;
-                c += 1;
-            }
+            Ok(behind) => at = behind,
         }
     }
-    Built::Accepted
-}
-
-// A number of the positions; beyond the end nothing is written.
-fn put_metre(positions: &mut [i16], at: usize, z: i16)
-    ensures { positions.new ≡ set positions.old at z }
-{
-    if at < positions.len() {
-        positions[at] = z;
-    }
-}
-
-// So many coordinates from a cursor on, in the first places of the positions.
-fn read_positions(text: &[u8], from: Cursor, n: usize, positions: &mut [i16])
-    ensures { PositionsRead text.now from.at n positions.old positions.new }
-{
-    let mut at = from.at;
-    let mut i: usize = 0;
-    while i < n {
-        match take_coordinate(text, Cursor { at }) {
-            TookCoordinate::Stop(_) => return,
-            TookCoordinate::Is(z, behind) => {
-                put_metre(positions, i, z);
-                at = behind.at;
-                i += 1;
-            }
-        }
-    }
+    Ok(())
 }
 
 // Whether memory of so many words and positions of so many numbers have room for these capacities: 1, 2, then 16.
-fn check_room(words: usize, numbers: usize, marks: u32, cells: u32) -> Verdict
+fn check_room(words: usize, numbers: usize, marks: u32, cells: u32) -> Result<(), Refusal>
     ensures { verdict_says result ≡ answer (room_checks words numbers (capacities marks cells)) [] }
 {
     if MOST_CAPACITY < marks {
-        return Verdict::Refused(Refusal::CapacityAbove);
+        return Err(Refusal::CapacityAbove);
     }
     if MOST_CAPACITY < cells {
-        return Verdict::Refused(Refusal::CapacityAbove);
+        return Err(Refusal::CapacityAbove);
     }
     let caps = Caps {
         marks,
@@ -150,28 +125,25 @@ fn check_room(words: usize, numbers: usize, marks: u32, cells: u32) -> Verdict
         edition: FIRST_EDITION,
     };
     if words < room_of(caps) {
-        return Verdict::Refused(Refusal::MemoryShort);
+        return Err(Refusal::MemoryShort);
     }
     if numbers < 3 * marks as usize {
-        return Verdict::Refused(Refusal::PositionsShort);
+        return Err(Refusal::PositionsShort);
     }
-    Verdict::Accepted
+    Ok(())
 }
 
 // The surface of a text, read into mesh memory and positions.
-pub fn read_off(w: &mut [u32], positions: &mut [i16], text: &[u8]) -> Surfaced
+pub fn read_off(w: &mut [u32], positions: &mut [i16], text: &[u8]) -> Result<(), NotRead>
     ensures { ReadsOff w.old positions.old text.now result w.new positions.new }
 {
-    let form = match form_of(text) {
-        Shape::Stop(place) => return Surfaced::Broken(place),
-        Shape::Is(form) => form,
-    };
-    if let Verdict::Refused(why) = check_room(w.len(), positions.len(), form.marks, form.cells) {
-        return Surfaced::Refused(why, 0);
+    let form = form_of(text)?;
+    if let Err(why) = check_room(w.len(), positions.len(), form.marks, form.cells) {
+        return Err(NotRead::Refused(why, 0));
     }
-    if let Built::Refused(why, place) = build_faces(w, text, form.faces, form.marks, form.cells) {
-        return Surfaced::Refused(why, place);
+    if let Err(Unbuilt { why, place }) = build_faces(w, text, form.faces, form.marks, form.cells) {
+        return Err(NotRead::Refused(why, place));
     }
-    read_positions(text, form.vertices, 3 * form.marks as usize, positions);
-    Surfaced::Accepted
+    read_words::<Coordinate>(text, form.vertices, 3 * form.marks as usize, positions);
+    Ok(())
 }

@@ -1,23 +1,21 @@
 -- What writing a surface answers, step by step.
-use mathlib.Core.Path.{◌≡◌, refl, sym, ap, subst, ◌∙◌}
-use mathlib.Core.Bool.{Bool, true, false, cond}
+use mathlib.Core.Path.{◌≡◌, refl, sym, ap, ◌∙◌}
+use mathlib.Core.Bool.{true, false}
 use mathlib.Core.List.{List, [], ◌∷◌, ◌++◌, append_assoc}
+use Rattle.std.specs.Prelude.{Option, Some, None, Ok, Err}
 use Prim.Native.Nat.{ℕ, ◌+◌, ◌*◌, ◌<◌, ◌≤◌}
 use native.Mathlib.Omega.{arith}
 use borrow.Author.Tests.{lt-ltb, le-ltb}
 use lib.Dec.{ltb}
-use lib.ListN.{length, take, drop, length-append}
-use lib.Seq.{drop_at, length-sets}
+use lib.ListN.{length, drop, length-append}
+use lib.Seq.{drop_at}
 use lib.IntN.{ℤ}
 use Rattle.lists.proofs.Bools.{clash}
 use Rattle.numbers.specs.declared.Caps.{Caps}
-use Rattle.store.specs.Open.{is_mesh, opened}
-use Rattle.store.specs.Slots.{code_in}
-use Rattle.store.specs.declared.Opened.TheVariants as Opened'
+use Rattle.store.specs.Open.{opened}
 use Rattle.map.specs.Cells.{Map}
-use Rattle.map.specs.Answers.{Answer, ◌when◌, answer, list_answer}
+use Rattle.map.specs.Answers.{◌when◌, answer, list_answer}
 use Rattle.map.specs.Says.{given, refused}
-use Rattle.map.specs.declared.Refusal.{Refusal}
 use Rattle.map.specs.declared.Refusal.TheVariants.{NotMesh, PositionsShort, OutputShort}
 use Rattle.picture.specs.Picture.{Wf}
 use Rattle.checks.proofs.Opens.{nothing_opened, mesh_opened, wf_mesh, wf_caps}
@@ -27,10 +25,9 @@ use Rattle.off.specs.Numbers.{title}
 use Rattle.off.specs.Writing.{line, counts_line, vertex_lines, face_lines, text_of}
 use Rattle.off_lines.proofs.Lengths.{vertices_few, head_few}
 use Rattle.surfaces_out.specs.WritesOff.{other_cell, faces_of, off_text, write_checks, write_answer, written_says, text_left, WritesOff}
-use Rattle.surfaces_out.specs.InMemory.{other_type, faces_in, Surveyed}
+use Rattle.surfaces_out.specs.InMemory.{faces_in, Surveyed}
 use Rattle.surfaces_out.specs.declared.Survey.{Survey}
-use Rattle.surfaces_out.specs.declared.Survey.TheVariants as Survey'
-use Rattle.surfaces_out.specs.declared.Written.TheVariants as Written'
+use Rattle.surfaces_out.specs.declared.NotWritten.TheVariants as NotWritten'
 use Rattle.surfaces_out.proofs.Listed.{faces_are, others_none, others_some, lines_most}
 
 -- the whole text, in the order in which it is written
@@ -55,77 +52,77 @@ total_few marks n cells positions w caps a b c ea eb ec =
 
 module _ (w : List ℕ) (positions : List ℤ) (o : List ℕ) where
   -- no mesh
-  pub write_none : Opened'.Nothing ≡ opened w → WritesOff w positions o (Written'.Refused NotMesh) o
+  pub write_none : (Err NotMesh) ≡ opened w → WritesOff w positions o (Err (NotWritten'.Refused NotMesh)) o
   write_none e = record {
     refused = λ n. refl;
     kept = λ f. refl;
-    first = λ n z. let q : ◌≡◌ {A = ℕ} 0 1 = cc in absurd (omega arith);
+    first = λ n z. cc;
     answers = λ m wf. absurd (clash (wf_mesh w m wf) (nothing_opened w e));
   }
 
-  module _ (caps : Caps) (e : Opened'.Mesh caps ≡ opened w) where
+  module _ (caps : Caps) (e : Ok caps ≡ opened w) where
     marks_are : (m : Map) → Wf w m → m.caps.marks ≡ caps.marks
     marks_are m wf = ap (λ (c : Caps). c.marks) (wf_caps w m wf caps e)
 
-    pub write_positions : length positions < 3 * caps.marks → WritesOff w positions o (Written'.Refused PositionsShort) o
+    pub write_positions : length positions < 3 * caps.marks → WritesOff w positions o (Err (NotWritten'.Refused PositionsShort)) o
     unfolding write_answer list_answer write_checks ◌when◌ answer written_says refused text_left
     write_positions h = record {
       refused = λ n. absurd (clash (mesh_opened w caps e).0 n);
       kept = λ f. refl;
-      first = λ n z. let q : ◌≡◌ {A = ℕ} 0 1 = cc in absurd (omega arith);
+      first = λ n z. cc;
       answers = λ m wf.
           let t : ltb (length positions) (3 * m.caps.marks) ≡ true = lt-ltb (length positions) (3 * m.caps.marks) (omega (arith, marks_are m wf)) in
           rw t (refl, refl);
     }
 
-    module _ (enough : 3 * caps.marks ≤ length positions) (s : Survey) (surveyed : Surveyed w caps s) where
+    module _ (enough : 3 * caps.marks ≤ length positions) (s : Option Survey) (surveyed : Surveyed w caps s) where
       has_positions : (m : Map) → Wf w m → ltb (length positions) (3 * m.caps.marks) ≡ false
       has_positions m wf = le-ltb (length positions) (3 * m.caps.marks) (omega (arith, marks_are m wf))
 
-      pub write_other : s ≡ Survey'.Other → WritesOff w positions o Written'.NotSurface o
+      pub write_other : s ≡ None → WritesOff w positions o (Err NotWritten'.NotSurface) o
       unfolding write_answer list_answer write_checks ◌when◌ answer written_says text_left
       write_other z = record {
         refused = λ n. absurd (clash (mesh_opened w caps e).0 n);
         kept = λ f. refl;
-        first = λ n z. let q : ◌≡◌ {A = ℕ} 0 1 = cc in absurd (omega arith);
+        first = λ n z. cc;
         answers = λ m wf.
             let found = surveyed.other z in
             rw (has_positions m wf, others_some w caps m (wf_caps w m wf caps e) wf found.0 found.1 found.2) (refl, refl);
       }
 
-      module _ (n bytes : ℕ) (z : s ≡ Survey'.Is n bytes) (a b total : ℕ) (ea : a ≡ length (line title [] ++ counts_line caps.marks n))
-          (eb : b ≡ length (vertex_lines caps.marks positions)) (et : total ≡ a + b + bytes) where
+      module _ (found : Survey) (z : s ≡ Some found) (a b total : ℕ) (ea : a ≡ length (line title [] ++ counts_line caps.marks found.faces))
+          (eb : b ≡ length (vertex_lines caps.marks positions)) (et : total ≡ a + b + found.bytes) where
         abbrev faces : List (List ℕ)
         faces = faces_in w caps caps.cells
 
         abbrev text : List ℕ
-        text = (line title [] ++ counts_line caps.marks n) ++ (vertex_lines caps.marks positions ++ face_lines faces)
+        text = (line title [] ++ counts_line caps.marks found.faces) ++ (vertex_lines caps.marks positions ++ face_lines faces)
 
         size : total ≡ length text
-        size = et ∙ text_long caps.marks n positions faces a b bytes ea eb (surveyed.is n bytes z).2
+        size = et ∙ text_long caps.marks found.faces positions faces a b found.bytes ea eb (surveyed.is found z).2
 
         text_is : (m : Map) → Wf w m → text ≡ off_text m positions
         unfolding off_text
         text_is m wf =
-            text_parts caps.marks n positions faces (surveyed.is n bytes z).1
+            text_parts caps.marks found.faces positions faces (surveyed.is found z).1
             ∙ (ap (λ (l : List (List ℕ)). text_of caps.marks positions l) (faces_are w caps m (wf_caps w m wf caps e) wf)
             ∙ ap (λ (k : ℕ). text_of k positions (faces_of m)) (sym (marks_are m wf)))
 
         no_others : (m : Map) → Wf w m → other_cell m ≡ false
-        no_others m wf = others_none w caps m (wf_caps w m wf caps e) wf (surveyed.is n bytes z).0
+        no_others m wf = others_none w caps m (wf_caps w m wf caps e) wf (surveyed.is found z).0
 
-        pub write_short : length o < total → WritesOff w positions o (Written'.Refused OutputShort) o
+        pub write_short : length o < total → WritesOff w positions o (Err (NotWritten'.Refused OutputShort)) o
         unfolding write_answer list_answer write_checks ◌when◌ answer written_says refused text_left
         write_short h = record {
           refused = λ n. absurd (clash (mesh_opened w caps e).0 n);
           kept = λ f. refl;
-          first = λ n z. let q : ◌≡◌ {A = ℕ} 0 1 = cc in absurd (omega arith);
+          first = λ n z. cc;
           answers = λ m wf.
               let short : ltb (length o) (length (off_text m positions)) ≡ true = lt-ltb (length o) (length (off_text m positions)) (omega (arith, size, ap length (text_is m wf))) in
               rw (has_positions m wf, no_others m wf, short) (refl, refl);
         }
 
-        pub write_done : total ≤ length o → (r : ℕ) (o' : List ℕ) → Appended text o 0 r o' → WritesOff w positions o (Written'.Length total) o'
+        pub write_done : total ≤ length o → (r : ℕ) (o' : List ℕ) → Appended text o 0 r o' → WritesOff w positions o (Ok total) o'
         unfolding write_answer list_answer write_checks ◌when◌ answer written_says given text_left
         write_done h r o' f =
             let fits : 0 + length text ≤ length o = omega (arith, size) in

@@ -3,6 +3,7 @@ use mathlib.Core.Path.{◌≡◌, refl, sym, ap, ◌∙◌}
 use mathlib.Core.Bool.{Bool, true, false, cond, not, ◌&&◌}
 use mathlib.Core.List.{List, [], ◌∷◌, ◌++◌, append_assoc, append-nil, map}
 use mathlib.Core.Logic.{⊎_elim}
+use Rattle.std.specs.Prelude.{Some, None}
 use Prim.Native.Nat.{ℕ, zero, suc, ◌+◌, ◌*◌, ◌<◌, ◌≤◌}
 use native.Mathlib.Decide.{dec_lt}
 use native.Mathlib.Numerals.{add-one}
@@ -11,11 +12,11 @@ use lib.Dec.{eqb}
 use lib.ListN.{length, length-append}
 use Rattle.lists.specs.Lists.{any, has, select}
 use Rattle.lists.proofs.Bools.{either, clash, and_left, and_right}
-use Rattle.lists.proofs.Select.{select_in, select_out, select_same}
+use Rattle.lists.proofs.Select.{select_in, select_out}
 use Rattle.lists.proofs.Counts.{none_has, has_none}
 use Rattle.numbers.specs.declared.Caps.{Caps}
 use Rattle.shapes.specs.Shapes.{shape}
-use Rattle.store.specs.Slots.{code_in, corner_in}
+use Rattle.store.specs.Slots.{code_in}
 use Rattle.map.specs.Cells.{Map, Live, live, live_at, live_cells}
 use Rattle.picture.specs.Picture.{Wf}
 use Rattle.checks.proofs.Rows.{code_of}
@@ -25,7 +26,7 @@ use Rattle.frames.proofs.Append.{append_none, append_more, append_same}
 use Rattle.off.specs.Writing.{face_line, face_lines}
 use Rattle.surfaces_out.specs.WritesOff.{is_face, other_cell, faces_of}
 use Rattle.surfaces_out.specs.InMemory.{other_type, corners_in, line_in, faces_in, Surveyed}
-use Rattle.surfaces_out.specs.declared.Survey.TheVariants as Survey'
+use Rattle.surfaces_out.specs.declared.Survey.{Survey}
 use Rattle.surfaces_out.proofs.Marked.{line_few}
 
 pub map_last : {A B : Type 0} (f : A → B) (l : List A) (x : A) → map f (l ++ (x ∷ [])) ≡ map f l ++ (f x ∷ [])
@@ -119,9 +120,9 @@ module _ (w : List ℕ) (caps : Caps) where
   }
 
   module _ (c faces bytes : ℕ) (s : Surveying w caps c faces bytes) (t : ℕ) (e : t ≡ code_in w caps c) where
-    pub survey_other : c < caps.cells → (b : Bool) → b ≡ other_type t → b ≡ true → Surveyed w caps Survey'.Other
+    pub survey_other : c < caps.cells → (b : Bool) → b ≡ other_type t → b ≡ true → Surveyed w caps None
     survey_other h b q z = record {
-      is = λ n k r. let o : ◌≡◌ {A = ℕ} 0 1 = cc in absurd (omega arith);
+      is = λ k r. cc;
       other = λ r. (c, h, ap other_type (sym e) ∙ (sym q ∙ z));
     }
 
@@ -149,18 +150,19 @@ module _ (w : List ℕ) (caps : Caps) where
   pub survey_few : (c faces bytes : ℕ) → Surveying w caps c faces bytes → (more : ℕ) → more ≡ length (line_in w caps c) → (bytes ≤ 64 * c) × (more ≤ 64)
   survey_few c faces bytes s more e = (s.most, omega (arith, line_few w caps c))
 
-  pub survey_done : (c faces bytes : ℕ) → Surveying w caps c faces bytes → c ≤ caps.cells → caps.cells ≤ c → Surveyed w caps (Survey'.Is faces bytes)
+  pub survey_done : (c faces bytes : ℕ) → Surveying w caps c faces bytes → c ≤ caps.cells → caps.cells ≤ c → Surveyed w caps (Some (record { faces = faces; bytes = bytes }))
   survey_done c faces bytes s h k =
       let e : c ≡ caps.cells = omega arith in
       record {
-        is = λ n b r.
-            let en : faces ≡ n = cc in
-            let eb : bytes ≡ b = cc in (
+        is = λ found r.
+            let same : record { faces = faces; bytes = bytes } ≡ found = cc in
+            let en : faces ≡ found.faces = ap (λ (s : Survey). s.faces) same in
+            let eb : bytes ≡ found.bytes = ap (λ (s : Survey). s.bytes) same in (
               (λ i l. s.none i (omega arith)),
               sym en ∙ (s.count ∙ ap (λ (i : ℕ). length (faces_in w caps i)) e),
               sym eb ∙ (s.sum ∙ ap (λ (i : ℕ). length (face_lines (faces_in w caps i))) e),
             );
-        other = λ r. let o : ◌≡◌ {A = ℕ} 0 1 = cc in absurd (omega arith);
+        other = λ r. cc;
       }
 
 -- by the map

@@ -2,7 +2,7 @@
 use mathlib.Core.Path.{◌≡◌, refl, sym, ap, ◌∙◌}
 use mathlib.Core.Bool.{Bool, true, false, cond}
 use mathlib.Core.List.{List, [], ◌∷◌, ◌++◌, append_assoc, append-nil, map}
-use Prim.Native.Nat.{ℕ, zero, suc, ◌+◌, ◌*◌, ◌<◌, ◌≤◌}
+use Prim.Native.Nat.{ℕ, ◌+◌, ◌*◌, ◌≤◌}
 use native.Mathlib.Numerals.{add-one}
 use native.Mathlib.Omega.{arith}
 use borrow.Author.Tests.{eq-eqb, ne_eqb}
@@ -18,8 +18,7 @@ use Rattle.frames.specs.Forms.{Appended}
 use Rattle.frames.proofs.Append.{append_none, append_more, append_same}
 use Rattle.off.specs.Writing.{digits_of, behind, line, face_line}
 use Rattle.off_lines.proofs.Lengths.{number_most}
-use Rattle.surfaces_out.specs.WritesOff.{is_face}
-use Rattle.surfaces_out.specs.InMemory.{other_type, corners_in, line_in}
+use Rattle.surfaces_out.specs.InMemory.{corners_in, line_in}
 
 -- the marks, each behind a space
 unfoldable pub spaced : List ℕ → List ℕ
@@ -139,28 +138,3 @@ line_few w caps c = go (eqb (code_in w caps c) 0)
     go : (b : Bool) → length (cond b [] (face_line (corners_in w caps c))) ≤ 64
     go true = omega arith
     go false = long (corners_in w caps c) (eight w caps c)
-
--- types
-module _ (t : ℕ) where
-  pub other_dead : t ≡ 0 → false ≡ other_type t
-  unfolding other_type
-  other_dead e = rw (eq-eqb t 0 e)
-
-  module _ (f : t ≡ 0 → ⊥) where
-    pub other_tri : t ≡ 2 → false ≡ other_type t
-    unfolding other_type is_face
-    other_tri e = rw (ne_eqb t 0 f, eq-eqb t 2 e)
-
-    pub other_quad : (t ≡ 2 → ⊥) → t ≡ 3 → false ≡ other_type t
-    unfolding other_type is_face
-    other_quad g e = rw (ne_eqb t 0 f, ne_eqb t 2 g, eq-eqb t 3 e)
-
-    pub other_more : (t ≡ 2 → ⊥) → (t ≡ 3 → ⊥) → true ≡ other_type t
-    unfolding other_type is_face
-    other_more g h = rw (ne_eqb t 0 f, ne_eqb t 2 g, ne_eqb t 3 h)
-
-  pub one_dead : t ≡ 0 → ◌≡◌ {A = ℕ} 0 (cond (eqb t 0) 0 1)
-  one_dead e = rw (eq-eqb t 0 e)
-
-  pub one_live : (t ≡ 0 → ⊥) → ◌≡◌ {A = ℕ} 1 (cond (eqb t 0) 0 1)
-  one_live f = rw (ne_eqb t 0 f)

@@ -12,29 +12,38 @@ ghost use Rattle.store.specs.Slots.{corner_in};
 ghost use Rattle.frames.specs.Forms.{Appended};
 ghost use Rattle.off.specs.Numbers.{title};
 ghost use Rattle.off.specs.Writing.{digits_of, line, counts_line, vertex_lines, face_lines};
+ghost use Rattle.surfaces_out.specs.declared.NotWritten.TheVariants.{Refused};
 ghost use Rattle.surfaces_out.specs.WritesOff.{WritesOff};
 ghost use Rattle.surfaces_out.specs.InMemory.{other_type, line_in, faces_in, Surveyed};
 
+use frames::add;
 use map::Refusal;
 use numbers::{Caps, Cell};
-use off::{add, write_number};
+use off::write_number;
 use off_lines::{head_length, number_length, vertices_length, write_head, write_vertices};
 use shapes::mark_count;
-use store::{Opened, code_of, corner_of, open};
+use store::{code_of, corner_of, open};
 
-// A text written, with its length in bytes; 18; or another refusal.
+// Why no text is written: 18 for a live cell that is no face, or another refusal.
 #[derive(Clone, Copy)]
-pub enum Written {
-    Length(usize),
+pub enum NotWritten {
     NotSurface,
     Refused(Refusal),
 }
 
-// The live faces counted, and the bytes of their lines; or a cell that is no face.
+impl From<Refusal> for NotWritten {
+    ghost from_gives = { λ why unwritten. unwritten ≡ Refused why };
+
+    fn from(why: Refusal) -> NotWritten {
+        NotWritten::Refused(why)
+    }
+}
+
+// The live faces counted, and the bytes of their lines.
 #[derive(Clone, Copy)]
-enum Survey {
-    Is(u32, usize),
-    Other,
+struct Survey {
+    faces: u32,
+    bytes: usize,
 }
 
 // The line of a cell of so many marks; the place after it.
@@ -42,12 +51,10 @@ fn write_face(out: &mut [u8], at: usize, w: &[u32], caps: Caps, c: Cell, size: u
     ensures { Appended (line (digits_of size) (map digits_of (list_of size (corner_in w.now caps c.0)))) out.old at result out.new }
 {
     let mut next = write_number(out, at, size);
-    let mut k: u32 = 0;
-    while k < size {
+    for k in 0..size {
         let behind = add(out, next, b' ');
         let v = corner_of(w, caps, c, k);
         next = write_number(out, behind, v.0);
-        k += 1;
     }
     add(out, next, b'\n')
 }
@@ -57,39 +64,26 @@ fn face_length(w: &[u32], caps: Caps, c: Cell, size: u32) -> usize
     ensures { result ≡ length (line (digits_of size) (map digits_of (list_of size (corner_in w.now caps c.0)))) }
 {
     let mut bytes = number_length(size);
-    let mut k: u32 = 0;
-    while k < size {
+    for k in 0..size {
         let v = corner_of(w, caps, c, k);
         bytes += 1 + number_length(v.0);
-        k += 1;
     }
     bytes + 1
 }
 
 // Whether a live cell of this type is no face.
+#[tactic(auto, unfolding(crate::specs::InMemory::other_type, crate::specs::WritesOff::is_face))]
 fn is_other(t: u32) -> bool
     ensures { result ≡ other_type t }
 {
-    if t == 0 {
-        return false;
-    }
-    if t == 2 {
-        return false;
-    }
-    if t == 3 {
-        return false;
-    }
-    true
+    !matches!(t, 0 | 2 | 3)
 }
 
 // One for a live cell.
 fn live_one(t: u32) -> u32
     ensures { result ≡ cond (eqb t 0) 0 1 }
 {
-    if t == 0 {
-        return 0;
-    }
-    1
+    (t != 0) as u32
 }
 
 // The line of a cell, if it is live; the place after it.
@@ -114,23 +108,21 @@ fn cell_length(w: &[u32], caps: Caps, c: Cell) -> usize
     face_length(w, caps, c, mark_count(t))
 }
 
-// Every cell looked at: the live faces counted, and the bytes of their lines.
-fn survey_cells(w: &[u32], caps: Caps) -> Survey
+// Every cell looked at: the live faces counted, and the bytes of their lines; none where a cell is no face.
+fn survey_cells(w: &[u32], caps: Caps) -> Option<Survey>
     ensures { Surveyed w.now caps result }
 {
     let mut faces: u32 = 0;
     let mut bytes: usize = 0;
-    let mut c: u32 = 0;
-    while c < caps.cells {
+    for c in 0..caps.cells {
         let t = code_of(w, caps, Cell(c));
         if is_other(t) {
-            return Survey::Other;
+            return None;
         }
         faces += live_one(t);
         bytes += cell_length(w, caps, Cell(c));
-        c += 1;
     }
-    Survey::Is(faces, bytes)
+    Some(Survey { faces, bytes })
 }
 
 // The lines of the live cells, ascending; the place after them.
@@ -138,10 +130,8 @@ fn write_faces(out: &mut [u8], at: usize, w: &[u32], caps: Caps) -> usize
     ensures { Appended (face_lines (faces_in w.now caps caps.cells)) out.old at result out.new }
 {
     let mut next = at;
-    let mut c: u32 = 0;
-    while c < caps.cells {
+    for c in 0..caps.cells {
         next = write_cell(out, next, w, caps, Cell(c));
-        c += 1;
     }
     next
 }
@@ -156,26 +146,21 @@ fn write_text(out: &mut [u8], w: &[u32], caps: Caps, positions: &[i16], faces: u
 }
 
 // The surface of mesh memory and positions, written as OFF text.
-pub fn write_off(w: &[u32], positions: &[i16], out: &mut [u8]) -> Written
+pub fn write_off(w: &[u32], positions: &[i16], out: &mut [u8]) -> Result<usize, NotWritten>
     ensures { WritesOff w.now positions.now out.old result out.new }
 {
-    let Opened::Mesh(caps) = open(w) else {
-        return Written::Refused(Refusal::NotMesh);
-    };
+    let caps = open(w)?;
     if positions.len() < 3 * caps.marks as usize {
-        return Written::Refused(Refusal::PositionsShort);
+        return Err(NotWritten::Refused(Refusal::PositionsShort));
     }
-    match survey_cells(w, caps) {
-        Survey::Other => Written::NotSurface,
-        Survey::Is(faces, bytes) => {
-            let total = head_length(caps.marks, faces)
-                + vertices_length(positions, caps.marks)
-                + bytes;
-            if out.len() < total {
-                return Written::Refused(Refusal::OutputShort);
-            }
-            write_text(out, w, caps, positions, faces);
-            Written::Length(total)
-        }
+    let Some(found) = survey_cells(w, caps) else {
+        return Err(NotWritten::NotSurface);
+    };
+    let head = head_length(caps.marks, found.faces);
+    let total = head + vertices_length(positions, caps.marks) + found.bytes;
+    if out.len() < total {
+        return Err(NotWritten::Refused(Refusal::OutputShort));
     }
+    write_text(out, w, caps, positions, found.faces);
+    Ok(total)
 }

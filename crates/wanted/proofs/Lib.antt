@@ -1,5 +1,4 @@
 -- The laws that the layers above cite.
-pub mod Alike
 pub mod Reading
 pub mod Standing
 pub mod Exact

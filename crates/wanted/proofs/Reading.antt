@@ -17,8 +17,7 @@ use Rattle.map.specs.Answers.{Answer}
 use Rattle.map.specs.Says.{number_of, given, refused, verdict_says}
 use Rattle.map.specs.declared.Refusal.{Refusal}
 use Rattle.map.specs.declared.Refusal.TheVariants.{TypeUnknown, CountWrong}
-use Rattle.map.specs.declared.Verdict.{Verdict}
-use Rattle.map.specs.declared.Verdict.TheVariants.{Accepted, Refused}
+use Rattle.std.specs.Prelude.{Result, ⊤, Ok, Err}
 use Rattle.map.proofs.Refusals.{number_some}
 use Rattle.build.specs.Recorded.{width}
 use Rattle.build.proofs.Records.{three_words}
@@ -147,38 +146,38 @@ no_refusal words at more e = go (ℕ_discrete (refusal_at words at) 0)
 
 -- the check of one record
 module _ (words : List ℕ) (at : ℕ) where
-  pub check_short : length words < at + 3 → verdict_says (Refused CountWrong) ≡ refused_with (refusal_at words at)
+  pub check_short : length words < at + 3 → verdict_says (Err CountWrong) ≡ refused_with (refusal_at words at)
   unfolding verdict_says refused
   check_short h = rw (head_missing words at h)
 
   module _ (long : at + 3 ≤ length words) (t : ℕ) (et : t ≡ get_or words (at + 1) 0) where
-    pub check_type : (shape t).dimension ≡ 0 → verdict_says (Refused TypeUnknown) ≡ refused_with (refusal_at words at)
+    pub check_type : (shape t).dimension ≡ 0 → verdict_says (Err TypeUnknown) ≡ refused_with (refusal_at words at)
     unfolding verdict_says refused
     check_type e = rw (refusal_is words at long, ← et, type_unknown t (length words - (at + 3)) e)
 
     module _ (known : (shape t).dimension ≡ 0 → ⊥) where
-      pub check_marks : length words - (at + 3) < (shape t).marks → verdict_says (Refused CountWrong) ≡ refused_with (refusal_at words at)
+      pub check_marks : length words - (at + 3) < (shape t).marks → verdict_says (Err CountWrong) ≡ refused_with (refusal_at words at)
       unfolding verdict_says refused
       check_marks h = rw (refusal_is words at long, ← et, marks_missing t (length words - (at + 3)) known h)
 
-      pub check_whole : (shape t).marks ≤ length words - (at + 3) → verdict_says Accepted ≡ refused_with (refusal_at words at)
+      pub check_whole : (shape t).marks ≤ length words - (at + 3) → verdict_says (Ok tt) ≡ refused_with (refusal_at words at)
       unfolding verdict_says given
       check_whole h = rw (refusal_is words at long, ← et, record_whole t (length words - (at + 3)) known h)
 
 -- the list so far
 module _ (words : List ℕ) (at : ℕ) (so : (wanted_of words).refusal ≡ (wanted_of (drop at words)).refusal) where
-  pub reading_end : length words ≤ at → verdict_says Accepted ≡ refused_with (wanted_of words).refusal
+  pub reading_end : length words ≤ at → verdict_says (Ok tt) ≡ refused_with (wanted_of words).refusal
   unfolding verdict_says given
   reading_end h = rw (so, drop_of_length-le words {i = at} h, wanted_end)
 
-  module _ (more : at < length words) (v : Verdict) (says : verdict_says v ≡ refused_with (refusal_at words at)) where
-    pub reading_stop : (why : Refusal) → v ≡ Refused why → verdict_says (Refused why) ≡ refused_with (wanted_of words).refusal
+  module _ (more : at < length words) (v : Result ⊤ Refusal) (says : verdict_says v ≡ refused_with (refusal_at words at)) where
+    pub reading_stop : (why : Refusal) → v ≡ Err why → verdict_says (Err why) ≡ refused_with (wanted_of words).refusal
     unfolding verdict_says refused
     reading_stop why e =
         let n : refusal_at words at ≡ number_of why = sym (ap (λ (a : Answer). a.refusal) (ap verdict_says (sym e) ∙ says)) in
         rw (so, refused_at words at more (number_of why) n (λ z. omega (arith, number_some why)))
 
-    pub reading_on : v ≡ Accepted → (end : ℕ) → end ≡ min (at + width words at) (length words)
+    pub reading_on : v ≡ (Ok tt) → (end : ℕ) → end ≡ min (at + width words at) (length words)
         → (wanted_of words).refusal ≡ (wanted_of (drop end words)).refusal
     unfolding verdict_says given
     reading_on e end ends =

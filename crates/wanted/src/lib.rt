@@ -8,7 +8,6 @@
 #![tactic(auto)]
 
 ghost use Rattle.std.specs.Prelude.{◌≡◌, length};
-ghost use Rattle.lists.specs.Lists.{same};
 ghost use Rattle.map.specs.Cells.{licensed_body};
 ghost use Rattle.map.specs.Says.{verdict_says};
 ghost use Rattle.wanted.specs.Wanted.{wanted_of};
@@ -16,62 +15,44 @@ ghost use Rattle.wanted.specs.Records.{refused_with, refusal_at, cell_at, stands
 
 use build::record_end;
 use facet::marks_at;
-use map::{Refusal, Verdict};
+use map::Refusal;
 use numbers::{Caps, Cell};
 use shapes::{dimension, mark_count};
 use store::{code_of, licence_of};
 use words::{part, word};
 
 // The record at a place: its head, then its type, then its marks.
-fn check_record(records: &[u32], at: usize) -> Verdict
+fn check_record(records: &[u32], at: usize) -> Result<(), Refusal>
     ensures { verdict_says result ≡ refused_with (refusal_at records.now at) }
 {
     let len = records.len();
     if len < 3 {
-        return Verdict::Refused(Refusal::CountWrong);
+        return Err(Refusal::CountWrong);
     }
     if len - 3 < at {
-        return Verdict::Refused(Refusal::CountWrong);
+        return Err(Refusal::CountWrong);
     }
     let t = word(records, at + 1);
     if dimension(t) == 0 {
-        return Verdict::Refused(Refusal::TypeUnknown);
+        return Err(Refusal::TypeUnknown);
     }
     if len - 3 - at < mark_count(t) as usize {
-        return Verdict::Refused(Refusal::CountWrong);
+        return Err(Refusal::CountWrong);
     }
-    Verdict::Accepted
+    Ok(())
 }
 
 // Whether a wanted list is whole, or why not.
-pub fn read_wanted(records: &[u32]) -> Verdict
+pub fn read_wanted(records: &[u32]) -> Result<(), Refusal>
     ensures { verdict_says result ≡ refused_with (wanted_of records.now).refusal }
 {
     let mut at: usize = 0;
+    // a walk from record to record, not a count: each says where the next begins
     while at < records.len() {
-        if let Verdict::Refused(why) = check_record(records, at) {
-            return Verdict::Refused(why);
-        }
+        check_record(records, at)?;
         at = record_end(records, at);
     }
-    Verdict::Accepted
-}
-
-// The same words.
-fn same_words(a: &[u32], b: &[u32]) -> bool
-    ensures { result ≡ same a.now b.now }
-{
-    if a.len() != b.len() {
-        return false;
-    }
-    let mut i = 0;
-    while i < a.len() {
-        if a[i] != b[i] {
-            return false;
-        }
-        i += 1;
-    }
-    true
+    Ok(())
 }
 
 // The cell is live, of this type, with this licence, on these marks in this order.
@@ -91,7 +72,7 @@ fn stands(w: &[u32], caps: Caps, c: Cell, t: u32, licence: u32, marks: &[u32]) -
     if licence_of(w, caps, c) != licence {
         return false;
     }
-    same_words(marks_at(w, caps, c), marks)
+    marks_at(w, caps, c) == marks
 }
 
 // The cell of the record at a place stands in the mesh, as it is wanted.

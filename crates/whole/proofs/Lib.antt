@@ -1,4 +1,5 @@
 -- The laws that the layers above cite.
+pub mod Ranges
 pub mod Loops
 pub mod Afters
 pub mod Readings

@@ -15,7 +15,8 @@ use Rattle.shapes.specs.Table.{table}
 use Rattle.numbers.specs.declared.Caps.{Caps}
 use Rattle.numbers.specs.Sizes.{most_capacity}
 use Rattle.numbers.specs.Editions.{is_edition}
-use Rattle.store.specs.declared.Opened.TheVariants.{Mesh, Nothing}
+use Rattle.map.specs.declared.Refusal.TheVariants.{NotMesh}
+use Rattle.std.specs.Prelude.{Ok, Err}
 use Rattle.shapes.specs.Sizes.{most_facets, most_code}
 use Rattle.store.specs.Layout.{head_words, magic, room}
 use Rattle.store.specs.Fields.{Magic, MarkCap, CellCap, Edition, Count, Sib}
@@ -48,10 +49,10 @@ use Rattle.whole.proofs.Deciding.{lone_alone, ready_lone, ancs_right_lem, right_
 not_whole : (w : List ℕ) → ((m : Map) → Wf w m → ⊥) → Whole w false
 not_whole w f = record { yes = λ e. absurd (clash e refl); no = λ e. f }
 
-pub no_mesh : (w : List ℕ) → Nothing ≡ opened w → Whole w false
+pub no_mesh : (w : List ℕ) → (Err NotMesh) ≡ opened w → Whole w false
 no_mesh w e = not_whole w (λ m wf. clash (wf_mesh w m wf) (nothing_opened w e))
 
-module _ (w : List ℕ) (caps : Caps) (opens : Mesh caps ≡ opened w) where
+module _ (w : List ℕ) (caps : Caps) (opens : Ok caps ≡ opened w) where
   headed : Headed w caps
   unfolding is_mesh caps_in head_in
   headed =

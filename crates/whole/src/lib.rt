@@ -24,34 +24,23 @@ use numbers::{Caps, Cell, Half, MOST_AROUND, Mark, SECOND_EDITION, half_of};
 use record_checks::laid;
 use shapes::{FacetTable, MOST_CODE, dimension, facet_count, facet_table};
 use sibling::{facet_sharers, facing};
-use store::{Opened, anchor_of, code_of, corner_of, count_of, open, sibling_of, way_of};
+use store::{anchor_of, code_of, corner_of, count_of, open, sibling_of, way_of};
 use words::word;
 
 // Whether k is another cell than c, of the same type with the same set of marks.
 fn twin(w: &[u32], caps: Caps, c: Cell, k: Cell) -> bool
     ensures { result ≡ twin_in w.now caps c.0 k.0 }
 {
-    if k.0 == c.0 {
-        return false;
-    }
-    if code_of(w, caps, k) != code_of(w, caps, c) {
-        return false;
-    }
-    same_set(marks_at(w, caps, k), marks_at(w, caps, c))
+    k.0 != c.0
+        && code_of(w, caps, k) == code_of(w, caps, c)
+        && same_set(marks_at(w, caps, k), marks_at(w, caps, c))
 }
 
 // Whether one of the first n cells of a list is a twin of c.
 fn twins(w: &[u32], caps: Caps, c: Cell, cells: &[u32], n: u32) -> bool
     ensures { result ≡ any (twin_in w.now caps c.0) (list_of n (λ i. get_or cells.now i 0)) }
 {
-    let mut i: u32 = 0;
-    while i < n {
-        if twin(w, caps, c, Cell(word(cells, i as usize))) {
-            return true;
-        }
-        i += 1;
-    }
-    false
+    (0..n).any(|i| twin(w, caps, c, Cell(word(cells, i as usize))))
 }
 
 // Whether no other cell is of the type of c with its set of marks.
@@ -71,27 +60,18 @@ fn lone(w: &[u32], caps: Caps, c: Cell) -> bool
 fn all_lone(w: &[u32], caps: Caps) -> bool
     ensures { Sees w.now caps (Upright caps) (λ s. every caps.cells (lone_of (map_with caps s))) result }
 {
-    let mut c: u32 = 0;
-    while c < caps.cells {
-        if !lone(w, caps, Cell(c)) {
-            return false;
-        }
-        c += 1;
-    }
-    true
+    (0..caps.cells).all(|c| lone(w, caps, Cell(c)))
 }
 
 // The number after h among the first n of a list, and after the last the first.
 fn next_in(list: &[u32], n: u32, h: Half) -> u32
     ensures { result ≡ after h.0 (list_of n (λ i. get_or list.now i 0)) }
 {
-    let mut i: u32 = 0;
-    while i < n {
+    for i in 0..n {
         let x = word(list, i as usize);
         if h.0 < x {
             return x;
         }
-        i += 1;
     }
     if n == 0 {
         return h.0;
@@ -103,13 +83,7 @@ fn next_in(list: &[u32], n: u32, h: Half) -> u32
 fn few(caps: Caps, t: u32, n: u32) -> bool
     ensures { result ≡ few_in caps t n }
 {
-    if caps.edition != SECOND_EDITION {
-        return true;
-    }
-    if dimension(t) != 3 {
-        return true;
-    }
-    n <= 2
+    caps.edition != SECOND_EDITION || dimension(t) != 3 || n <= 2
 }
 
 // Whether so many may share a facet, and the stored sibling of its half-facet is the sibling, its way the way.
@@ -123,10 +97,8 @@ fn sibling_ok(w: &[u32], caps: Caps, rows: &FacetTable, c: Cell, f: u32) -> bool
     }
     let half = half_of(c, f);
     let next = Half(next_in(&halves, n, half));
-    if sibling_of(w, caps, half).0 != next.0 {
-        return false;
-    }
-    way_number(way_of(w, caps, half)) == way_number(facing(w, caps, rows, half, next))
+    sibling_of(w, caps, half).0 == next.0
+        && way_number(way_of(w, caps, half)) == way_number(facing(w, caps, rows, half, next))
 }
 
 // Whether that is so for each facet of a cell.
@@ -134,40 +106,24 @@ fn siblings_ok(w: &[u32], caps: Caps, rows: &FacetTable, c: Cell) -> bool
     ensures { Sees w.now caps (λ s. Readied caps rows.now s × (c.0 < caps.cells)) (λ s. facets_right w.now caps s c.0) result }
 {
     let n = facet_count(code_of(w, caps, c));
-    let mut f: u32 = 0;
-    while f < n {
-        if !sibling_ok(w, caps, rows, c, f) {
-            return false;
-        }
-        f += 1;
-    }
-    true
+    (0..n).all(|f| sibling_ok(w, caps, rows, c, f))
 }
 
 // Whether that is so for all cells.
 fn all_siblings(w: &[u32], caps: Caps, rows: &FacetTable) -> bool
     ensures { Sees w.now caps (Readied caps rows.now) (λ s. every caps.cells (facets_right w.now caps s)) result }
 {
-    let mut c: u32 = 0;
-    while c < caps.cells {
-        if !siblings_ok(w, caps, rows, Cell(c)) {
-            return false;
-        }
-        c += 1;
-    }
-    true
+    (0..caps.cells).all(|c| siblings_ok(w, caps, rows, Cell(c)))
 }
 
 // Whether the stored first anchors of a mark are its first anchors.
 fn anchors_ok(w: &[u32], caps: Caps, rows: &FacetTable, v: Mark) -> bool
     ensures { Sees w.now caps (λ s. SettledBy caps rows.now s × (v.0 < caps.marks)) (λ s. ancs_right caps s v.0) result }
 {
-    let mut d: u32 = 0;
-    while d < 3 {
+    for d in 0..3 {
         if anchor_of(w, caps, d + 1, v) != first_anchor_of(w, caps, rows, d + 1, v) {
             return false;
         }
-        d += 1;
     }
     true
 }
@@ -176,14 +132,7 @@ fn anchors_ok(w: &[u32], caps: Caps, rows: &FacetTable, v: Mark) -> bool
 fn all_anchors(w: &[u32], caps: Caps, rows: &FacetTable) -> bool
     ensures { Sees w.now caps (SettledBy caps rows.now) (λ s. every caps.marks (ancs_right caps s)) result }
 {
-    let mut v: u32 = 0;
-    while v < caps.marks {
-        if !anchors_ok(w, caps, rows, Mark(v)) {
-            return false;
-        }
-        v += 1;
-    }
-    true
+    (0..caps.marks).all(|v| anchors_ok(w, caps, rows, Mark(v)))
 }
 
 // The cells of a type, counted.
@@ -191,12 +140,10 @@ fn count(w: &[u32], caps: Caps, t: u32) -> u32
     ensures { result ≡ count_in w.now caps t }
 {
     let mut n: u32 = 0;
-    let mut c: u32 = 0;
-    while c < caps.cells {
+    for c in 0..caps.cells {
         if code_of(w, caps, Cell(c)) == t {
             n += 1;
         }
-        c += 1;
     }
     n
 }
@@ -205,12 +152,10 @@ fn count(w: &[u32], caps: Caps, t: u32) -> u32
 fn counts_ok(w: &[u32], caps: Caps) -> bool
     ensures { result ≡ every most_code (count_right w.now caps) }
 {
-    let mut t: u32 = 0;
-    while t < MOST_CODE {
+    for t in 0..MOST_CODE {
         if count_of(w, caps, t + 1) != count(w, caps, t + 1) {
             return false;
         }
-        t += 1;
     }
     true
 }
@@ -219,7 +164,7 @@ fn counts_ok(w: &[u32], caps: Caps) -> bool
 pub fn whole(w: &[u32]) -> bool
     ensures { Whole w.now result }
 {
-    let Opened::Mesh(caps) = open(w) else {
+    let Ok(caps) = open(w) else {
         return false;
     };
     if !laid(w, caps) {
@@ -232,8 +177,5 @@ pub fn whole(w: &[u32]) -> bool
         return false;
     }
     let rows = facet_table();
-    if !all_siblings(w, caps, &rows) {
-        return false;
-    }
-    all_anchors(w, caps, &rows)
+    all_siblings(w, caps, &rows) && all_anchors(w, caps, &rows)
 }

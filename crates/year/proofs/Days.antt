@@ -11,8 +11,7 @@ use Rattle.numbers.specs.declared.Caps.{Caps}
 use Rattle.map.specs.Cells.{Map}
 use Rattle.map.specs.Answers.{Answer}
 use Rattle.map.specs.Says.{given, verdict_says}
-use Rattle.map.specs.declared.Verdict.{Verdict}
-use Rattle.map.specs.declared.Verdict.TheVariants.{Accepted}
+use Rattle.std.specs.Prelude.{Ok}
 use Rattle.picture.specs.Picture.{Wf}
 use Rattle.picture.proofs.Put.{wf_one}
 use Rattle.edits.proofs.Cut.{room_of}
@@ -48,18 +47,18 @@ on_room m past day = ap (λ (c : Caps). room c.marks c.cells) (after_caps m (bef
 
 -- the map on a day is, word for word, the mesh that the edits of that day and earlier ones leave, whatever was folded
 pub day_words : {m : Map} {past : List Dated} {fold : ℕ} {j start second second' : List ℕ} {day : ℕ} → Filed m past fold j start
-    → OnDay j start day second Accepted second' → (w : List ℕ) → Wf w (map_on m past day) → take (room_of m) second' ≡ take (room_of m) w
+    → OnDay j start day second (Ok tt) second' → (w : List ℕ) → Wf w (map_on m past day) → take (room_of m) second' ≡ take (room_of m) w
 day_words {m} {past} {fold} {second' = second'} {day} f did w wf =
     rw (on_room m past day) at (wf_one second' w (map_on m past day) ((did.answers m past fold f).1 refl) wf)
 
 -- so folding changes no answer: before and after folds a day has the same words
 pub same_day : {m : Map} {past : List Dated} {fold fold₂ : ℕ} {j start j₂ start₂ a a' b b' : List ℕ} {day : ℕ} → Filed m past fold j start
-    → Filed m past fold₂ j₂ start₂ → OnDay j start day a Accepted a' → OnDay j₂ start₂ day b Accepted b' → take (room_of m) a' ≡ take (room_of m) b'
+    → Filed m past fold₂ j₂ start₂ → OnDay j start day a (Ok tt) a' → OnDay j₂ start₂ day b (Ok tt) b' → take (room_of m) a' ≡ take (room_of m) b'
 same_day {m} {past} {fold₂ = fold₂} {b' = b'} {day} f g x y = day_words f x b' ((y.answers m past fold₂ g).1 refl)
 
 -- "a day after the last reads as the last": it is today's mesh
 pub last_day_lem : {m : Map} {past : List Dated} {fold : ℕ} {mesh j start second second' : List ℕ} {day : ℕ} → Kept m past fold mesh j start → last_day past ≤ day
-    → OnDay j start day second Accepted second' → take (room_of m) second' ≡ take (room_of m) mesh
+    → OnDay j start day second (Ok tt) second' → take (room_of m) second' ≡ take (room_of m) mesh
 unfolding map_on
 last_day_lem {m} {past} {mesh = mesh} {day = day} k h did =
     day_words k.filed did mesh (rw (up_to_last day k.filed.order h) k.today)

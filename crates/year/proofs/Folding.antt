@@ -13,13 +13,12 @@ use Rattle.numbers.specs.Room.{room}
 use Rattle.numbers.specs.declared.Caps.{Caps}
 use Rattle.words.proofs.Frame.{only_none}
 use Rattle.store.specs.Open.{room_in, opened}
-use Rattle.store.specs.declared.Opened.TheVariants.{Mesh, Nothing}
+use Rattle.std.specs.Prelude.{Ok, Err}
 use Rattle.map.specs.Cells.{Map}
 use Rattle.map.specs.Answers.{◌when◌, answer}
 use Rattle.map.specs.Says.{number_of, given, refused, verdict_says}
 use Rattle.map.specs.declared.Refusal.{Refusal}
 use Rattle.map.specs.declared.Refusal.TheVariants.{NotMesh, FoldNotAllowed}
-use Rattle.map.specs.declared.Verdict.TheVariants.{Accepted, Refused}
 use Rattle.map.proofs.Refusals.{number_some}
 use Rattle.checks.proofs.Opens.{mesh_opened}
 use Rattle.mesh.specs.Run.{Run}
@@ -86,21 +85,21 @@ filed_tests {j = j} f day = rw (head_ever j _ _ _ _ _ f.journal, head_last j _ _
 
 module _ (j start : List ℕ) (day : ℕ) where
   fold_refused : (why : Refusal) → (both start j ≡ false → why ≡ NotMesh)
-      → ((m : Map) (past : List Dated) (fold : ℕ) → Filed m past fold j start → fold_answer past fold day ≡ refused why) → Folded j start day (Refused why) j start
+      → ((m : Map) (past : List Dated) (fold : ℕ) → Filed m past fold j start → fold_answer past fold day ≡ refused why) → Folded j start day (Err why) j start
   unfolding verdict_says
   fold_refused why none says = record {
-    refused = λ n. ap Refused (none n);
+    refused = λ n. ap Err (none n);
     kept = λ other q. (refl, refl);
     within = only_none;
     inside = only_none;
     answers = λ m past fold f. (sym (says m past fold f), rw (after_same past fold day why (says m past fold f)) f);
   }
 
-  pub fold_none : Nothing ≡ opened start → Folded j start day (Refused NotMesh) j start
+  pub fold_none : (Err NotMesh) ≡ opened start → Folded j start day (Err NotMesh) j start
   fold_none e = fold_refused NotMesh (λ n. refl) (λ m past fold f. absurd (clash (filed_both f) (none_both start j e)))
 
-  module _ (caps : Caps) (opens : Mesh caps ≡ opened start) where
-    pub fold_other : (is : Bool) → is ≡ is_journal j caps → is ≡ false → Folded j start day (Refused NotMesh) j start
+  module _ (caps : Caps) (opens : Ok caps ≡ opened start) where
+    pub fold_other : (is : Bool) → is ≡ is_journal j caps → is ≡ false → Folded j start day (Err NotMesh) j start
     fold_other is ei ef =
         fold_refused NotMesh (λ n. refl) (λ m past fold f. absurd (clash (filed_both f) (opened_both start j caps opens ∙ (sym ei ∙ ef))))
 
@@ -108,7 +107,7 @@ module _ (j start : List ℕ) (day : ℕ) where
       both_are : both start j ≡ true
       both_are = opened_both start j caps opens ∙ (sym ei ∙ et)
 
-      pub fold_forbidden : no-fold ≡ true → Folded j start day (Refused FoldNotAllowed) j start
+      pub fold_forbidden : no-fold ≡ true → Folded j start day (Err FoldNotAllowed) j start
       fold_forbidden e =
           fold_refused FoldNotAllowed (λ n. absurd (clash both_are n)) (λ m past fold f. fold_not past fold day (sym (filed_tests f day) ∙ (sym en ∙ e)))
 
@@ -143,7 +142,7 @@ module _ (j start : List ℕ) (day : ℕ) where
                     (rw caps_same f.journal));
               }
 
-          pub fold_made : Folded j start day Accepted j' (x ++ drop r start)
+          pub fold_made : Folded j start day (Ok tt) j' (x ++ drop r start)
           unfolding verdict_says
           fold_made = record {
             refused = λ n. absurd (clash both_are n);

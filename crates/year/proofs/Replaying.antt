@@ -12,16 +12,13 @@ use Rattle.numbers.specs.declared.Caps.{Caps}
 use Rattle.words.specs.Words.{Only}
 use Rattle.words.proofs.Frame.{only_none}
 use Rattle.store.specs.Open.{room_in, opened}
-use Rattle.store.specs.declared.Opened.TheVariants.{Mesh}
+use Rattle.std.specs.Prelude.{Result, Ok, Err}
 use Rattle.map.specs.Cells.{Map}
 use Rattle.map.specs.History.{Edit, history}
 use Rattle.map.specs.Says.{verdict_says}
 use Rattle.map.specs.declared.Refusal.{Refusal}
 use Rattle.map.specs.declared.Refusal.TheVariants.{NotMesh}
-use Rattle.map.specs.declared.Verdict.TheVariants.{Accepted, Refused}
 use Rattle.picture.specs.Picture.{Wf}
-use Rattle.checks.specs.declared.Opening.{Opening}
-use Rattle.checks.specs.declared.Opening.TheVariants as Opening'
 use Rattle.checks.proofs.Opens.{mesh_opened, wf_caps}
 use Rattle.mesh.specs.Run.{Run}
 use Rattle.mesh.proofs.Evening.{run_wf}
@@ -59,7 +56,7 @@ module _ {m : Map} {past : List Dated} {fold : ℕ} {j start : List ℕ} (f : Fi
       ∙ ap (map_after m) (before_then fold (suc day) (omega arith) f.order)))
 
   -- made from the words of the starting map's room
-  pub filed_replayed : (caps : Caps) → Mesh caps ≡ opened start → (r : ℕ) → r ≡ room caps.marks caps.cells → (n day k : ℕ) → n ≡ entries_in j
+  pub filed_replayed : (caps : Caps) → Ok caps ≡ opened start → (r : ℕ) → r ≡ room caps.marks caps.cells → (n day k : ℕ) → n ≡ entries_in j
       → Counted j n day k → fold ≤ day + 1 → (x rest : List ℕ) → Run (take r start) (edits_in j k) x → Wf (x ++ rest) (map_after m (before (suc day) past))
   filed_replayed caps opens r er n day k en c late x rest run =
       let at : Map = map_after m (before fold past) in
@@ -73,18 +70,18 @@ pub room_only : (w x : List ℕ) (r : ℕ) → r ≤ length w → length x ≡ l
 room_only w x r long size = rw (length-take-le r w long, take-append-drop r w) at (joined_inside (take r w) x (drop r w) size)
 
 -- what opens a day, or does not
-module _ (j start second : List ℕ) (day : ℕ) (opening : Opening) (is : opening ≡ day_opened j start day (length second)) where
-  pub on_refused : (why : Refusal) → opening ≡ Opening'.Refused why → OnDay j start day second (Refused why) second
+module _ (j start second : List ℕ) (day : ℕ) (opening : Result Caps Refusal) (is : opening ≡ day_opened j start day (length second)) where
+  pub on_refused : (why : Refusal) → opening ≡ Err why → OnDay j start day second (Err why) second
   unfolding verdict_says opening_says
   on_refused why q = record {
-    refused = λ n. ap Refused (day_other_why j start day (length second) n why (sym is ∙ q));
+    refused = λ n. ap Err (day_other_why j start day (length second) n why (sym is ∙ q));
     kept = λ other q. refl;
     inside = only_none;
     answers = λ m past fold f.
         (ap opening_says (sym q ∙ is) ∙ day_says f day (length second), λ q. let z : ◌≡◌ {A = ℕ} 0 1 = cc in absurd (omega arith));
   }
 
-  module _ (caps : Caps) (q : opening ≡ Opening'.Open caps) (r : ℕ) (er : r ≡ room caps.marks caps.cells) where
+  module _ (caps : Caps) (q : opening ≡ Ok caps) (r : ℕ) (er : r ≡ room caps.marks caps.cells) where
     opens : DayOpen j start day (length second) caps
     opens = day_opens j start day (length second) caps (sym is ∙ q)
 
@@ -92,7 +89,7 @@ module _ (j start second : List ℕ) (day : ℕ) (opening : Opening) (is : openi
     on_fits = day_fits j start day (length second) opening is caps q r er
 
     pub on_made : (n k : ℕ) → n ≡ entries_in j → Counted j n day k → (x : List ℕ) → Replayed start j k (take r second) x
-        → OnDay j start day second Accepted (x ++ drop r second)
+        → OnDay j start day second (Ok tt) (x ++ drop r second)
     unfolding verdict_says map_on opening_says
     on_made n k en c x did = record {
       refused = λ n. absurd (clash opens.are n);

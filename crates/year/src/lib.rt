@@ -8,81 +8,84 @@
 #![tactic(auto)]
 
 ghost use Rattle.std.specs.Prelude.{◌≡◌};
-ghost use Rattle.journal_store.specs.Days.{not_allowed};
+ghost use Rattle.journal_store.specs.Days.{before_fold, not_allowed};
 ghost use Rattle.journal_store.specs.Journals.{last_in, ever_in, fold_in};
 ghost use Rattle.year.specs.Calls.{day_opened, OnDay, Folded};
 
-use checks::Opening;
 use journal_store::{
-    count_up_to, entries_of, ever_of, fold_of, is_journal, last_of, move_entries, write_head,
+    Head, count_up_to, entries_of, ever_of, fold_of, is_journal, last_of, move_entries, write_head,
 };
-use map::{Refusal, Verdict};
+use map::Refusal;
+use numbers::Caps;
 use replay::{replay, replay_from};
-use store::{Opened, open, room_of};
+use store::{open, room_of};
 
 // So many days at least stay behind the last fold.
 const KEPT_DAYS: usize = 366;
 
+// Whether a day is before that of the last fold.
+fn is_folded(j: &[u32], day: u32) -> bool
+    ensures { result ≡ before_fold (fold_in j.now) day }
+{
+    match fold_of(j) {
+        Some(fold) => day < fold,
+        None => false,
+    }
+}
+
 // What opens a query for a day, with so many words of second memory: the capacities, or why it is refused.
-pub fn about_day(j: &[u32], start: &[u32], day: u32, words: usize) -> Opening
+pub fn about_day(j: &[u32], start: &[u32], day: u32, words: usize) -> Result<Caps, Refusal>
     ensures { result ≡ day_opened j.now start.now day words }
 {
-    let Opened::Mesh(caps) = open(start) else {
-        return Opening::Refused(Refusal::NotMesh);
-    };
+    let caps = open(start)?;
     if !is_journal(j, caps) {
-        return Opening::Refused(Refusal::NotMesh);
+        return Err(Refusal::NotMesh);
     }
-    let fold = fold_of(j);
-    if (day as usize) + 1 < fold as usize {
-        return Opening::Refused(Refusal::DayFolded);
+    if is_folded(j, day) {
+        return Err(Refusal::DayFolded);
     }
     let room = room_of(caps);
     if words < room {
-        return Opening::Refused(Refusal::MemoryShort);
+        return Err(Refusal::MemoryShort);
     }
-    Opening::Open(caps)
+    Ok(caps)
 }
 
 // The map of a day, written into second mesh memory.
-pub fn map_on(j: &[u32], start: &[u32], day: u32, second: &mut [u32]) -> Verdict
+pub fn map_on(j: &[u32], start: &[u32], day: u32, second: &mut [u32]) -> Result<(), Refusal>
     ensures { OnDay j.now start.now day second.old result second.new }
 {
-    let caps = match about_day(j, start, day, second.len()) {
-        Opening::Refused(why) => return Verdict::Refused(why),
-        Opening::Open(caps) => caps,
-    };
+    let caps = about_day(j, start, day, second.len())?;
     let room = room_of(caps);
     let n = count_up_to(j, entries_of(j), day);
     replay_from(&mut second[..room], start, j, n);
-    Verdict::Accepted
+    Ok(())
 }
 
 // Whether the edits up to a day may not be folded.
 fn not_allowed(j: &[u32], day: u32) -> bool
     ensures { result ≡ not_allowed (ever_in j.now) (fold_in j.now) (last_in j.now) day }
 {
-    if ever_of(j) == 0 {
+    if !ever_of(j) {
         return true;
     }
-    if (day as usize) + 1 < fold_of(j) as usize {
+    let folded = is_folded(j, day);
+    if folded {
         return true;
     }
     (last_of(j) as usize) < (day as usize) + KEPT_DAYS
 }
 
 // The edits up to a day, moved into the starting map.
-pub fn fold(j: &mut [u32], start: &mut [u32], day: u32) -> Verdict
+pub fn fold(j: &mut [u32], start: &mut [u32], day: u32) -> Result<(), Refusal>
     ensures { Folded j.old start.old day result j.new start.new }
 {
-    let Opened::Mesh(caps) = open(start) else {
-        return Verdict::Refused(Refusal::NotMesh);
-    };
+    let caps = open(start)?;
     if !is_journal(j, caps) {
-        return Verdict::Refused(Refusal::NotMesh);
+        return Err(Refusal::NotMesh);
     }
     if not_allowed(j, day) {
-        return Verdict::Refused(Refusal::FoldNotAllowed);
+        return Err(Refusal::FoldNotAllowed);
     }
     let room = room_of(caps);
     let n = entries_of(j);
@@ -90,6 +93,12 @@ pub fn fold(j: &mut [u32], start: &mut [u32], day: u32) -> Verdict
     let k = count_up_to(j, n, day);
     replay(&mut start[..room], j, k);
     move_entries(j, n, k);
-    write_head(j, caps, n - k, last, 1, day + 1);
-    Verdict::Accepted
+    let head = Head {
+        entries: n - k,
+        last,
+        ever: true,
+        fold: Some(day),
+    };
+    write_head(j, caps, head);
+    Ok(())
 }

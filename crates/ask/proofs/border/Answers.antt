@@ -1,17 +1,13 @@
 -- `ask::border` meets its contract.
-use Rattle.ask.proofs.Calls.{border_refused, border_yes, border_no}
+use Rattle.ask.proofs.Calls.{border_refused, border_given}
 use mathlib.Core.Path.{refl}
+use Rattle.map.proofs.Handed.{handed}
 use Rattle.ask.proofs.border.Goals as goal
 
-pub returns-in-Refused : goal.returns-in-Refused
-returns-in-Refused c = border_refused _ _ _ _ c.about_half.ensures _ c.in-Refused.is
+pub returns-in_err-caps : goal.returns-in_err-caps
+returns-in_err-caps c = rw (handed _ _ c.from_residual.ensures.1) (border_refused _ _ _ _ c.about_half.ensures _ c.in_err-caps.was)
 
-pub returns-then-sibling_of-h : goal.returns-then-sibling_of-h
-returns-then-sibling_of-h c =
-    let opens = c.about_half.ensures.opens _ c.in-Open.is in
-    border_yes _ _ opens.0 _ _ _ opens.1 refl _ c.half_of-h.ensures _ c.sibling_of.ensures c.if-sibling_of-h.true
-
-pub returns-else-sibling_of-h : goal.returns-else-sibling_of-h
-returns-else-sibling_of-h c =
-    let opens = c.about_half.ensures.opens _ c.in-Open.is in
-    border_no _ _ opens.0 _ _ _ opens.1 refl _ c.half_of-h.ensures _ c.sibling_of.ensures c.if-sibling_of-h.false
+pub returns : goal.returns
+returns c =
+    let opens = c.about_half.ensures.opens _ c.in_ok-caps.was in
+    border_given _ _ opens.0 _ _ _ opens.1 refl _ c.half_of-h.ensures _ c.sibling_of.ensures

@@ -2,11 +2,14 @@
 use mathlib.Core.Path.{sym, ◌∙◌}
 use Rattle.ask.proofs.Asks.{mesh_none}
 use Rattle.ask.proofs.Calls.{capacities_given}
+use Rattle.store.proofs.Shut.{shut}
 use Rattle.ask.proofs.capacities.Goals as goal
 
-pub returns-in-Nothing : goal.returns-in-Nothing
-returns-in-Nothing c = mesh_none _ _ _ _ (sym c.in-Nothing.is ∙ c.«open».ensures)
+pub returns-in_err-marks : goal.returns-in_err-marks
+returns-in_err-marks c =
+    let p = shut _ _ _ _ c.from_residual.ensures.1 c.in_err-marks.was c.«open».ensures in
+    rw p.0 (mesh_none _ _ _ _ p.1)
 
-pub returns-in-Mesh : goal.returns-in-Mesh
-returns-in-Mesh c =
-    capacities_given _ _ (sym c.in-Mesh.is ∙ c.«open».ensures)
+pub returns : goal.returns
+returns c =
+    capacities_given _ _ (sym c.in_ok-marks.was ∙ c.«open».ensures)

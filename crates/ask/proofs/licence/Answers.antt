@@ -1,12 +1,13 @@
 -- `ask::licence` meets its contract.
 use Rattle.ask.proofs.Calls.{licence_refused, licence_given}
 use mathlib.Core.Path.{refl}
+use Rattle.map.proofs.Handed.{handed}
 use Rattle.ask.proofs.licence.Goals as goal
 
-pub returns-in-Refused : goal.returns-in-Refused
-returns-in-Refused c = licence_refused _ _ _ c.about_cell.ensures _ c.in-Refused.is
+pub returns-in_err-caps : goal.returns-in_err-caps
+returns-in_err-caps c = rw (handed _ _ c.from_residual.ensures.1) (licence_refused _ _ _ c.about_cell.ensures _ c.in_err-caps.was)
 
-pub returns-in-Open : goal.returns-in-Open
-returns-in-Open c =
-    let opens = c.about_cell.ensures.opens _ c.in-Open.is in
+pub returns : goal.returns
+returns c =
+    let opens = c.about_cell.ensures.opens _ c.in_ok-caps.was in
     licence_given _ _ opens.0 _ _ opens.1 refl _ c.licence_of.ensures

@@ -5,11 +5,11 @@ use Rattle.border.proofs.Walked.{other_start, other_more}
 use Rattle.border.proofs.other.Goals as goal
 
 pub loop-f-init : goal.loop-f-init
-loop-f-init c = (omega arith, from_start _, other_start _ _)
+loop-f-init c = (from_start _, other_start _ _)
 
 pub loop-f-preserved : goal.loop-f-preserved
 loop-f-preserved c =
-    (omega arith, from_more _ _ _ c.loop-f.invariant.1, other_more _ _ c.loop-f.f _ _ _ (omega arith) c.loop-f.invariant.1 c.loop-f.invariant.2 c.better-found.ensures)
+    (from_more _ _ _ c.loop-f.invariant.0, other_more _ _ c.loop-f.f _ _ _ (omega arith) c.loop-f.invariant.0 c.loop-f.invariant.1 c.better-found.ensures)
 
 pub returns : goal.returns
-returns c = c.loop-f.invariant.2
+returns c = c.loop-f.invariant.1

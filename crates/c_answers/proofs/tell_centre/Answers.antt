@@ -4,10 +4,10 @@ use Rattle.positions.specs.Replies.{centre_says}
 use mathlib.Core.Path.{ap}
 use Rattle.c_answers.proofs.tell_centre.Goals as goal
 
-pub returns-in-Refused : goal.returns-in-Refused
+pub returns-in-Err : goal.returns-in-Err
 unfolding centre_says
-returns-in-Refused c = point_refused _ _ _ _ _ _ (ap centre_says c.in-Refused.is) c.byte_of.ensures
+returns-in-Err c = point_refused _ _ _ _ _ _ (ap centre_says c.in-Err.is) c.byte_of.ensures
 
-pub returns-in-At : goal.returns-in-At
+pub returns-in-Ok : goal.returns-in-Ok
 unfolding centre_says
-returns-in-At c = point_given _ _ _ _ _ _ _ (ap centre_says c.in-At.is)
+returns-in-Ok c = point_given _ _ _ _ _ _ _ (ap centre_says c.in-Ok.is)

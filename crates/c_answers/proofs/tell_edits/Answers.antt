@@ -4,9 +4,9 @@ use Rattle.map.specs.Says.{edits_says}
 use mathlib.Core.Path.{ap}
 use Rattle.c_answers.proofs.tell_edits.Goals as goal
 
-pub returns-in-Made : goal.returns-in-Made
+pub returns-in-Ok : goal.returns-in-Ok
 unfolding edits_says
-returns-in-Made c = told_given _ _ _ (ap edits_says c.in-Made.is)
+returns-in-Ok c = told_given _ _ _ (ap edits_says c.in-Ok.is)
 
-pub returns-in-Stopped : goal.returns-in-Stopped
-returns-in-Stopped c = edits_stopped _ _ _ _ _ c.in-Stopped.is c.byte_of.ensures
+pub returns-in-Err : goal.returns-in-Err
+returns-in-Err c = edits_stopped _ _ _ _ _ c.in-Err.is c.byte_of.ensures

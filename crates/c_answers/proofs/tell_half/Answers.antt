@@ -4,10 +4,10 @@ use Rattle.map.specs.Says.{half_says}
 use mathlib.Core.Path.{ap}
 use Rattle.c_answers.proofs.tell_half.Goals as goal
 
-pub returns-in-Refused : goal.returns-in-Refused
+pub returns-in-Err : goal.returns-in-Err
 unfolding half_says
-returns-in-Refused c = two_refused _ _ _ _ _ (ap half_says c.in-Refused.is) c.byte_of.ensures
+returns-in-Err c = two_refused _ _ _ _ _ (ap half_says c.in-Err.is) c.byte_of.ensures
 
-pub returns-in-At : goal.returns-in-At
+pub returns-in-Ok : goal.returns-in-Ok
 unfolding half_says
-returns-in-At c = two_given _ _ _ _ _ _ (ap half_says c.in-At.is) c.way_number.ensures
+returns-in-Ok c = two_given _ _ _ _ _ _ (ap half_says c.in-Ok.is) c.way_number.ensures

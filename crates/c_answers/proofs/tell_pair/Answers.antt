@@ -4,10 +4,10 @@ use Rattle.map.specs.Says.{pair_says}
 use mathlib.Core.Path.{refl, ap}
 use Rattle.c_answers.proofs.tell_pair.Goals as goal
 
-pub returns-in-Refused : goal.returns-in-Refused
+pub returns-in-Err : goal.returns-in-Err
 unfolding pair_says
-returns-in-Refused c = two_refused _ _ _ _ _ (ap pair_says c.in-Refused.is) c.byte_of.ensures
+returns-in-Err c = two_refused _ _ _ _ _ (ap pair_says c.in-Err.is) c.byte_of.ensures
 
-pub returns-in-Are : goal.returns-in-Are
+pub returns-in-Ok : goal.returns-in-Ok
 unfolding pair_says
-returns-in-Are c = two_given _ _ _ _ _ _ (ap pair_says c.in-Are.is) refl
+returns-in-Ok c = two_given _ _ _ _ _ _ (ap pair_says c.in-Ok.is) refl

@@ -4,10 +4,10 @@ use Rattle.planner.specs.Proposed.{proposal_says}
 use mathlib.Core.Path.{ap}
 use Rattle.c_answers.proofs.tell_proposal.Goals as goal
 
-pub returns-in-Words : goal.returns-in-Words
+pub returns-in-Ok : goal.returns-in-Ok
 unfolding proposal_says
-returns-in-Words c = told_given _ _ _ (ap proposal_says c.in-Words.is)
+returns-in-Ok c = told_given _ _ _ (ap proposal_says c.in-Ok.is)
 
-pub returns-in-Refused : goal.returns-in-Refused
+pub returns-in-Err : goal.returns-in-Err
 unfolding proposal_says
-returns-in-Refused c = told_refused _ _ _ _ (ap proposal_says c.in-Refused.is) c.byte_of.ensures
+returns-in-Err c = told_refused _ _ _ _ (ap proposal_says c.in-Err.is) c.byte_of.ensures

@@ -1,17 +1,17 @@
 -- `tell::tell_truth` meets its contract.
-use Rattle.c_answers.proofs.Tells.{told_given, told_refused}
+use Rattle.c_answers.proofs.Tells.{told_given, told_refused, ok_with}
 use Rattle.map.specs.Says.{truth_says}
 use mathlib.Core.Path.{ap}
 use Rattle.c_answers.proofs.tell_truth.Goals as goal
 
-pub returns-in-Refused : goal.returns-in-Refused
+pub returns-in-Err : goal.returns-in-Err
 unfolding truth_says
-returns-in-Refused c = told_refused _ _ _ _ (ap truth_says c.in-Refused.is) c.byte_of.ensures
+returns-in-Err c = told_refused _ _ _ _ (ap truth_says c.in-Err.is) c.byte_of.ensures
 
-pub returns-in-Yes : goal.returns-in-Yes
+pub returns-in-Ok-true : goal.returns-in-Ok-true
 unfolding truth_says
-returns-in-Yes c = told_given _ _ _ (ap truth_says c.in-Yes.is)
+returns-in-Ok-true c = told_given _ _ _ (ap truth_says (ok_with c.in-Ok-true.is c.in-Ok-true.field-0-test))
 
-pub returns-in-No : goal.returns-in-No
+pub returns-in-Ok-false : goal.returns-in-Ok-false
 unfolding truth_says
-returns-in-No c = told_given _ _ _ (ap truth_says c.in-No.is)
+returns-in-Ok-false c = told_given _ _ _ (ap truth_says (ok_with c.in-Ok-false.is c.in-Ok-false.field-0-test))

@@ -4,10 +4,10 @@ use Rattle.map.specs.Says.{value_says}
 use mathlib.Core.Path.{ap}
 use Rattle.c_answers.proofs.tell_value.Goals as goal
 
-pub returns-in-Refused : goal.returns-in-Refused
+pub returns-in-Err : goal.returns-in-Err
 unfolding value_says
-returns-in-Refused c = told_refused _ _ _ _ (ap value_says c.in-Refused.is) c.byte_of.ensures
+returns-in-Err c = told_refused _ _ _ _ (ap value_says c.in-Err.is) c.byte_of.ensures
 
-pub returns-in-Is : goal.returns-in-Is
+pub returns-in-Ok : goal.returns-in-Ok
 unfolding value_says
-returns-in-Is c = told_given _ _ _ (ap value_says c.in-Is.is)
+returns-in-Ok c = told_given _ _ _ (ap value_says c.in-Ok.is)

@@ -2,8 +2,8 @@
 use Rattle.c_answers.proofs.Tells.{verdict_accepted, verdict_refused}
 use Rattle.c_answers.proofs.tell_verdict.Goals as goal
 
-pub returns-in-Accepted : goal.returns-in-Accepted
-returns-in-Accepted c = verdict_accepted _ c.in-Accepted.is
+pub returns-in-Ok : goal.returns-in-Ok
+returns-in-Ok c = verdict_accepted _ c.in-Ok.is
 
-pub returns-in-Refused : goal.returns-in-Refused
-returns-in-Refused c = verdict_refused _ _ _ c.in-Refused.is c.byte_of.ensures
+pub returns-in-Err : goal.returns-in-Err
+returns-in-Err c = verdict_refused _ _ _ c.in-Err.is c.byte_of.ensures

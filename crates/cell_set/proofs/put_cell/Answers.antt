@@ -1,8 +1,7 @@
 -- `cell_set::put_cell` meets its contract.
 use mathlib.Core.Path.{sym}
-use native.Mathlib.Omega.{arith}
 use lib.Seq.{set_out}
 use Rattle.cell_set.proofs.put_cell.Goals as goal
 
-pub returns-then-cells-at : goal.returns-then-cells-at
-returns-then-cells-at c = sym (set_out _ _ _ (omega arith))
+pub returns-else-at-cells : goal.returns-else-at-cells
+returns-else-at-cells c = sym (set_out _ _ _ c.if-at-cells.false)

@@ -1,11 +1,7 @@
-use Prim.Native.Nat.{◌-◌, ◌<◌, ◌≤◌}
+use Prim.Native.Nat.{◌<◌}
 use Rattle.picture.specs.Step.{Step}
 use Rattle.edit.specs.Cleared.{cleared_to}
-use Rattle.shapes.specs.Sizes.{most_facets}
 use Rattle.edit.proofs.clear_siblings.Given as goal
 
 abbrev pub invariant-loop-f : goal.invariant-loop-f
-invariant-loop-f l = (l.f ≤ most_facets) × Step l.caps l.initial.w l.w (λ s. l.c.0 < l.caps.cells) (λ s. cleared_to s l.c.0 l.f)
-
-abbrev pub decreases-loop-f : goal.decreases-loop-f
-decreases-loop-f l = most_facets - l.f
+invariant-loop-f l = Step l.caps l.initial.w l.w (λ s. l.c.0 < l.caps.cells) (λ s. cleared_to s l.c.0 l.f)

@@ -8,16 +8,16 @@ use Rattle.edits.proofs.edit_all.Goals as goal
 pub loop-at-init : goal.loop-at-init
 loop-at-init c = going_start _ _ _ _ (omega arith) (omega arith)
 
-pub returns-in-Refused : goal.returns-in-Refused
-returns-in-Refused c =
-    going_refused _ _ _ _ _ c.loop-at.invariant (omega arith) _ _ _ _ c.word-kind.ensures (omega arith) (omega arith) c.part.ensures.words _ _ c.one_edit.ensures _ c.in-Refused.is
+pub returns-in-Err : goal.returns-in-Err
+returns-in-Err c =
+    going_refused _ _ _ _ _ c.loop-at.invariant (omega arith) _ _ _ _ c.word-kind.ensures (omega arith) (omega arith) c.part.ensures.words _ _ c.one_edit.ensures _ c.in-Err.is
 
-pub shape_of-w-in-Refused : goal.shape_of-w-in-Refused
-shape_of-w-in-Refused c = in_turn_size (returns-in-Refused c)
+pub shape_of-w-in-Err : goal.shape_of-w-in-Err
+shape_of-w-in-Err c = in_turn_size (returns-in-Err c)
 
-pub overflow_add-at-in-Made : goal.overflow_add-at-in-Made
-overflow_add-at-in-Made c =
-    omega (arith, going_less _ _ _ _ _ c.loop-at.invariant (omega arith) _ _ _ _ c.word-kind.ensures (omega arith) (omega arith) c.part.ensures.words _ _ c.one_edit.ensures _ c.in-Made.is, few_left _ _ _ _ _ c.loop-at.invariant (omega arith) _ _ _ _ c.word-kind.ensures (omega arith) (omega arith) c.part.ensures.words)
+pub overflow_add-at-in-Ok : goal.overflow_add-at-in-Ok
+overflow_add-at-in-Ok c =
+    omega (arith, going_less _ _ _ _ _ c.loop-at.invariant (omega arith) _ _ _ _ c.word-kind.ensures (omega arith) (omega arith) c.part.ensures.words _ _ c.one_edit.ensures _ c.in-Ok.is, few_left _ _ _ _ _ c.loop-at.invariant (omega arith) _ _ _ _ c.word-kind.ensures (omega arith) (omega arith) c.part.ensures.words)
 
 pub overflow_add-made : goal.overflow_add-made
 overflow_add-made c =
@@ -29,7 +29,7 @@ loop-at-smaller c =
 
 pub loop-at-preserved : goal.loop-at-preserved
 loop-at-preserved c =
-    going_next _ _ _ _ _ c.loop-at.invariant (omega arith) _ _ _ _ c.word-kind.ensures (omega arith) (omega arith) c.part.ensures.words _ _ c.one_edit.ensures _ c.in-Made.is _ _ (omega arith) (omega arith)
+    going_next _ _ _ _ _ c.loop-at.invariant (omega arith) _ _ _ _ c.word-kind.ensures (omega arith) (omega arith) c.part.ensures.words _ _ c.one_edit.ensures _ c.in-Ok.is _ _ (omega arith) (omega arith)
 
 pub returns : goal.returns
 returns c = going_done _ _ _ _ _ c.loop-at.invariant (omega arith)

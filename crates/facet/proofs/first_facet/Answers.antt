@@ -11,17 +11,17 @@ pub returns-then-not-spans : goal.returns-then-not-spans
 returns-then-not-spans c = match_other _ _ _ _ (sym c.spans.ensures ∙ not-true _ c.if-not-spans.true-raw)
 
 pub loop-f-init : goal.loop-f-init
-loop-f-init c = (omega arith, λ k h. absurd (not-suc-le-zero h))
+loop-f-init c = λ k h. absurd (not-suc-le-zero h)
 
 pub returns-then-same_facet : goal.returns-then-same_facet
 returns-then-same_facet c =
-    match_found _ _ _ _ _ c.facet_count-n.ensures c.loop-f.f c.loop-f.invariant.1
+    match_found _ _ _ _ _ c.facet_count-n.ensures c.loop-f.f c.loop-f.invariant
     (sym c.same_facet.ensures ∙ c.if-same_facet.true) (omega arith)
 
 pub loop-f-preserved : goal.loop-f-preserved
 loop-f-preserved c =
-    (omega arith, below_more _ _ c.loop-f.invariant.1 (sym c.same_facet.ensures ∙ c.if-same_facet.false))
+    below_more _ _ c.loop-f.invariant (sym c.same_facet.ensures ∙ c.if-same_facet.false)
 
 pub returns : goal.returns
 returns c =
-    match_none _ _ _ _ _ c.facet_count-n.ensures c.loop-f.f c.loop-f.invariant.1 (omega (arith, c.loop-f.invariant.0))
+    match_none _ _ _ _ _ c.facet_count-n.ensures c.loop-f.f c.loop-f.invariant (omega arith)

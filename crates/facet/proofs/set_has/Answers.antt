@@ -8,7 +8,7 @@ use Rattle.facet.proofs.Held.{held_stop, held_end}
 use Rattle.facet.proofs.set_has.Goals as goal
 
 pub loop-k-init : goal.loop-k-init
-loop-k-init c = (omega arith, λ j h. absurd (not-suc-le-zero h))
+loop-k-init c = λ j h. absurd (not-suc-le-zero h)
 
 pub returns-then-word-v : goal.returns-then-word-v
 returns-then-word-v c =
@@ -16,12 +16,10 @@ returns-then-word-v c =
     (set_here _ _ _ _ c.loop-k.k _ _ c.column-in-loop-k.ensures c.word.ensures) (omega arith) c.if-word-v.true
 
 pub loop-k-preserved : goal.loop-k-preserved
-loop-k-preserved c = (
-  omega arith,
-  below_more _ c.loop-k.k c.loop-k.invariant.1
-      (λ e. c.if-word-v.false (set_here _ _ _ _ c.loop-k.k _ _ c.column-in-loop-k.ensures c.word.ensures ∙ e)),
-)
+loop-k-preserved c =
+    below_more _ c.loop-k.k c.loop-k.invariant
+    (λ e. c.if-word-v.false (set_here _ _ _ _ c.loop-k.k _ _ c.column-in-loop-k.ensures c.word.ensures ∙ e))
 
 pub returns : goal.returns
 returns c =
-    held_end _ _ _ _ _ _ c.four_at_most-n.ensures c.column.ensures c.loop-k.k _ c.loop-k.invariant.1 (omega arith)
+    held_end _ _ _ _ _ _ c.four_at_most-n.ensures c.column.ensures c.loop-k.k _ c.loop-k.invariant (omega arith)

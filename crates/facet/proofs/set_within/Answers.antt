@@ -8,7 +8,7 @@ use Rattle.facet.proofs.Held.{within_stop, within_more, within_end}
 use Rattle.facet.proofs.set_within.Goals as goal
 
 pub loop-k-init : goal.loop-k-init
-loop-k-init c = (omega arith, λ j h. absurd (not-suc-le-zero h))
+loop-k-init c = λ j h. absurd (not-suc-le-zero h)
 
 pub returns-then-not-has : goal.returns-then-not-has
 returns-then-not-has c =
@@ -16,13 +16,11 @@ returns-then-not-has c =
     (set_here _ _ _ _ c.loop-k.k _ _ c.column-in-loop-k.ensures c.word.ensures) c.has.ensures (omega arith) (not-true _ c.if-not-has.true-raw)
 
 pub loop-k-preserved : goal.loop-k-preserved
-loop-k-preserved c = (
-  omega arith,
-  below_more _ c.loop-k.k c.loop-k.invariant.1
-      (within_more _ _ _ _ _ c.loop-k.k _ _ (set_here _ _ _ _ c.loop-k.k _ _ c.column-in-loop-k.ensures c.word.ensures)
-      c.has.ensures (not-false _ c.if-not-has.false-raw)),
-)
+loop-k-preserved c =
+    below_more _ c.loop-k.k c.loop-k.invariant
+    (within_more _ _ _ _ _ c.loop-k.k _ _ (set_here _ _ _ _ c.loop-k.k _ _ c.column-in-loop-k.ensures c.word.ensures)
+    c.has.ensures (not-false _ c.if-not-has.false-raw))
 
 pub returns : goal.returns
 returns c =
-    within_end _ _ _ _ _ _ c.four_at_most-n.ensures c.column.ensures _ c.loop-k.k c.loop-k.invariant.1 (omega arith)
+    within_end _ _ _ _ _ _ c.four_at_most-n.ensures c.column.ensures _ c.loop-k.k c.loop-k.invariant (omega arith)

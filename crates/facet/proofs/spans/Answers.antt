@@ -1,24 +1,15 @@
 -- `facet::spans` meets its contract.
-use mathlib.Core.Path.{sym, ◌∙◌}
-use Prim.Native.Nat.{◌-◌}
-use native.Mathlib.Omega.{arith}
-use borrow.Author.Tests.{not-true, not-false}
-use Rattle.facet.proofs.Held.{back_start, back_more, back_stop, back_end}
+use mathlib.Core.List.{◌∷◌}
+use Prim.Native.Nat.{ℕ}
+use borrow.Author.Rules.{rules}
+use borrow.Author.Tests.{tests}
+use Rattle.std.proofs.lemmas.Iterator.Adapters.{YieldsList-from_rev_slice}
+use Rattle.std.proofs.lemmas.Iterator.Search.{all_from_yields_List}
+use Rattle.lists.specs.Lists.{has}
+use Rattle.lists.proofs.Tested.{all_reversed}
 use Rattle.facet.proofs.spans.Goals as goal
 
-pub loop-i-init : goal.loop-i-init
-loop-i-init c = (omega arith, back_start _ c.args.set.now)
-
-pub returns-then-not-known : goal.returns-then-not-known
-returns-then-not-known c =
-    back_stop _ _ (c.loop-i.i - 1) (omega arith) (sym c.known.ensures ∙ not-true _ c.if-not-known.true-raw)
-
-pub loop-i-preserved : goal.loop-i-preserved
-loop-i-preserved c = (
-  omega arith,
-  back_more _ _ c.loop-i.i c.loop-i.invariant.1 (omega arith) c.loop-i.invariant.0
-      (sym c.known.ensures ∙ not-false _ c.if-not-known.false-raw),
-)
-
 pub returns : goal.returns
-returns c = back_end _ _ c.loop-i.i c.loop-i.invariant.1 (omega arith)
+returns c =
+    rw (all_reversed (λ (x : ℕ). has x (0 ∷ c.args.marks.now)) c.args.set.now)
+    (all_from_yields_List _ _ _ _ c.all.ensures.ran (YieldsList-from_rev_slice c.args.set.now cc) (λ x b q k. search (rules, tests)))

@@ -1,11 +1,7 @@
-use Prim.Native.Nat.{◌-◌, ◌≤◌}
-use lib.ListN.{length, take}
+use lib.ListN.{take}
 use Rattle.frames.specs.Forms.{Appended}
-use Rattle.frames.specs.Frames.{two_bytes, each, hex}
+use Rattle.frames.specs.Frames.{each, hex, two_bytes}
 use Rattle.frames.proofs.add_cells.Given as goal
 
-abbrev pub invariant-loop-i : goal.invariant-loop-i
-invariant-loop-i l = (l.i ≤ length l.cells) × Appended (hex (each two_bytes (take l.i l.cells))) l.initial.out l.at l.next l.out
-
-abbrev pub decreases-loop-i : goal.decreases-loop-i
-decreases-loop-i l = length l.cells - l.i
+abbrev pub invariant-loop-cell : goal.invariant-loop-cell
+invariant-loop-cell l = Appended (hex (each two_bytes (take l.cell-index l.cells))) l.initial.out l.at l.next l.out

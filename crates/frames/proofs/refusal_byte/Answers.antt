@@ -2,8 +2,8 @@
 use Rattle.frames.proofs.Texts.{accepted_byte, refused_byte}
 use Rattle.frames.proofs.refusal_byte.Goals as goal
 
-pub returns-in-Accepted : goal.returns-in-Accepted
-returns-in-Accepted c = accepted_byte _ c.in-Accepted.is
+pub returns-in-Ok : goal.returns-in-Ok
+returns-in-Ok c = accepted_byte _ c.in-Ok.is
 
-pub returns-in-Refused : goal.returns-in-Refused
-returns-in-Refused c = refused_byte _ _ _ c.in-Refused.is c.number_of.ensures
+pub returns-in-Err : goal.returns-in-Err
+returns-in-Err c = refused_byte _ _ _ c.in-Err.is c.number_of.ensures

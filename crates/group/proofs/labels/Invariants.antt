@@ -1,10 +1,6 @@
-use Prim.Native.Nat.{◌-◌, ◌≤◌}
 use Rattle.group.specs.Labels.{link_in, Merged}
 use Rattle.group.proofs.Merging.{Rows}
 use Rattle.group.proofs.labels.Given as goal
 
 abbrev pub invariant-loop-a : goal.invariant-loop-a
-invariant-loop-a l = (l.a ≤ l.n) × Merged (link_in l.w l.caps l.rows l.v.0 l.cells) l.n (Rows l.a) l.initial.lab l.lab
-
-abbrev pub decreases-loop-a : goal.decreases-loop-a
-decreases-loop-a l = l.n - l.a
+invariant-loop-a l = Merged (link_in l.w l.caps l.rows l.v.0 l.cells) l.n (Rows l.a) l.initial.lab l.lab

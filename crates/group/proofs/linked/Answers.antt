@@ -1,15 +1,9 @@
 -- `group::linked` meets its contract.
 use mathlib.Core.Path.{sym, ◌∙◌}
-use Prim.Native.Nat.{◌-◌}
 use native.Mathlib.Omega.{arith}
-use native.Mathlib.Nat.{not-suc-le-zero}
 use borrow.Author.Count.{below_more}
-use mathlib.Core.Bool.{false}
 use Rattle.group.proofs.Meeting.{linked_found, linked_none}
 use Rattle.group.proofs.linked.Goals as goal
-
-pub loop-f-init : goal.loop-f-init
-loop-f-init c = (omega arith, λ k h. absurd (not-suc-le-zero h))
 
 pub returns-then-joins : goal.returns-then-joins
 returns-then-joins c =
@@ -17,9 +11,8 @@ returns-then-joins c =
     (sym c.joins.ensures ∙ c.if-joins.true) (omega arith)
 
 pub loop-f-preserved : goal.loop-f-preserved
-loop-f-preserved c = (omega arith, below_more _ _ c.loop-f.invariant.1 (sym c.joins.ensures ∙ c.if-joins.false))
+loop-f-preserved c = below_more _ _ c.loop-f.invariant (sym c.joins.ensures ∙ c.if-joins.false)
 
 pub returns : goal.returns
 returns c =
-    linked_none _ _ _ _ _ _ _ _ c.code_of.ensures c.facet_count-n.ensures c.loop-f.f
-    c.loop-f.invariant.1 (omega (arith, c.loop-f.invariant.0))
+    linked_none _ _ _ _ _ _ _ _ c.code_of.ensures c.facet_count-n.ensures c.loop-f.f c.loop-f.invariant (omega arith)

@@ -1,11 +1,8 @@
 use mathlib.Core.Path.{◌≡◌}
-use Prim.Native.Nat.{ℕ, ◌-◌, ◌≤◌, ◌<◌}
+use Prim.Native.Nat.{ℕ, ◌<◌}
 use mathlib.Core.Bool.{false}
 use Rattle.group.specs.Labels.{joins_in}
 use Rattle.group.proofs.linked.Given as goal
 
 abbrev pub invariant-loop-f : goal.invariant-loop-f
-invariant-loop-f l = (l.f ≤ l.n) × ((k : ℕ) → k < l.f → joins_in l.w l.caps l.rows l.v.0 l.a.0 k l.b.0 ≡ false)
-
-abbrev pub decreases-loop-f : goal.decreases-loop-f
-decreases-loop-f l = l.n - l.f
+invariant-loop-f l = (k : ℕ) → k < l.f → joins_in l.w l.caps l.rows l.v.0 l.a.0 k l.b.0 ≡ false

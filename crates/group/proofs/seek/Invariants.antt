@@ -1,11 +1,8 @@
 use mathlib.Core.Path.{◌≡◌}
-use Prim.Native.Nat.{ℕ, ◌-◌, ◌≤◌, ◌<◌}
+use Prim.Native.Nat.{ℕ, ◌<◌}
 use mathlib.Core.Bool.{false}
 use Rattle.group.specs.Places.{chosen_in}
 use Rattle.group.proofs.seek.Given as goal
 
 abbrev pub invariant-loop-x : goal.invariant-loop-x
-invariant-loop-x l = (l.x ≤ l.end) × ((k : ℕ) → k < l.x → chosen_in l.w l.caps l.rows l.v.0 l.cells l.lab l.i l.only k ≡ false)
-
-abbrev pub decreases-loop-x : goal.decreases-loop-x
-decreases-loop-x l = l.end - l.x
+invariant-loop-x l = (k : ℕ) → k < l.x → chosen_in l.w l.caps l.rows l.v.0 l.cells l.lab l.i l.only k ≡ false

@@ -1,5 +1,3 @@
-use Prim.Native.Nat.{◌-◌}
-use lib.ListN as List
 use Rattle.reply.specs.Memory.{memory}
 use Rattle.input.proofs.Going.{Going}
 use Rattle.input.proofs.feed.Given as goal
@@ -7,6 +5,3 @@ use Rattle.input.proofs.feed.Given as goal
 abbrev pub invariant-loop-i : goal.invariant-loop-i
 invariant-loop-i l =
     Going (memory l.initial.mesh l.initial.journal l.initial.starting) l.initial.line l.length l.piece l.initial.out (memory l.mesh l.journal l.starting) l.line l.out l.n l.i l.at
-
-abbrev pub decreases-loop-i : goal.decreases-loop-i
-decreases-loop-i l = List.length l.piece - l.i

@@ -1,20 +1,15 @@
--- `admit::full_mark` meets its contract.
-use mathlib.Core.Path.{refl}
-use Prim.Native.Nat.{◌-◌}
-use native.Mathlib.Omega.{arith}
-use Rattle.lists.proofs.Scan.{any_stop, any_go, any_end}
-use Rattle.insert_checks.proofs.Alike.{full_yes, full_no}
-use borrow.Author.Rules.{rules}
+-- `insert_checks::full_mark` meets its contract.
+use mathlib.Core.Path.{sym}
+use Rattle.std.proofs.Common.{rules, tests, ◌∙◌}
+use Rattle.std.proofs.lemmas.Iterator.{YieldsList-from_slice}
+use Rattle.std.proofs.lemmas.Iterator.Search.{any_from_yields_List}
+use Rattle.insert_checks.specs.Admit.{full_in}
+use Rattle.lists.proofs.Tested.{any_listed}
 use Rattle.insert_checks.proofs.full_mark.Goals as goal
 
-pub loop-i-init : goal.loop-i-init
-loop-i-init c = (search rules, refl)
-
-pub returns-then-held_of-ge-MOST_AROUND : goal.returns-then-held_of-ge-MOST_AROUND
-returns-then-held_of-ge-MOST_AROUND c = any_stop _ _ c.loop-i.i c.loop-i.invariant.1 (full_yes _ _ _ _ c.held_of.ensures c.if-held_of-ge-MOST_AROUND.true) (omega arith)
-
-pub loop-i-preserved : goal.loop-i-preserved
-loop-i-preserved c = (omega arith, any_go _ _ c.loop-i.i c.loop-i.invariant.1 (full_no _ _ _ _ c.held_of.ensures c.if-held_of-ge-MOST_AROUND.false) (omega arith))
-
 pub returns : goal.returns
-returns c = any_end _ _ c.loop-i.i c.loop-i.invariant.1 (omega arith)
+unfolding full_in
+returns c =
+    let full = full_in c.args.w.now c.args.caps in
+    any_from_yields_List full _ _ c.any.result c.any.ensures.ran (YieldsList-from_slice c.args.marks.now cc) (λ x b q k. search (rules, tests))
+    ∙ sym (any_listed full c.args.marks.now)

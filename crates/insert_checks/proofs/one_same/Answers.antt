@@ -1,20 +1,15 @@
--- `admit::one_same` meets its contract.
-use mathlib.Core.Path.{sym, ap, ◌∙◌}
-use mathlib.Core.Bool.{false}
-use Prim.Native.Nat.{◌-◌}
-use native.Mathlib.Omega.{arith}
+-- `insert_checks::one_same` meets its contract.
+use Rattle.std.proofs.Common.{ℕ, refl, rules, tests, arith, get_or, ◌∙◌}
+use Rattle.std.proofs.lemmas.Iterator.{YieldsList-from_range}
+use Rattle.std.proofs.lemmas.Iterator.Search.{any_from_yields_List}
 use Rattle.insert_checks.specs.Admit.{same_in}
-use Rattle.lists.proofs.Through.{none_start, none_more, one_there, none_all}
+use Rattle.insert_checks.proofs.Ranges.{any_places}
 use Rattle.insert_checks.proofs.one_same.Goals as goal
 
-pub loop-i-init : goal.loop-i-init
-loop-i-init c = (omega arith, none_start _ _)
-
-pub returns-then-same_record : goal.returns-then-same_record
-returns-then-same_record c = sym (one_there _ _ _ c.loop-i.i (omega arith) (ap (same_in _ _ _ _) (sym c.word.ensures) ∙ (sym c.same_record.ensures ∙ c.if-same_record.true)))
-
-pub loop-i-preserved : goal.loop-i-preserved
-loop-i-preserved c = (omega arith, none_more _ _ c.loop-i.i c.loop-i.invariant.1 (ap (same_in _ _ _ _) (sym c.word.ensures) ∙ (sym c.same_record.ensures ∙ c.if-same_record.false)))
-
 pub returns : goal.returns
-returns c = none_all _ _ c.loop-i.i _ c.loop-i.invariant.1 c.loop-i.invariant.0 (omega arith)
+returns c =
+    let same = same_in c.args.w.now c.args.caps c.args.t c.args.marks.now in
+    let cell = λ (i : ℕ). get_or c.args.cells.now i 0 in
+    any_from_yields_List (λ i. same (cell i)) _ _ c.any.result c.any.ensures.ran
+    (YieldsList-from_range 0 c.args.n c.args.n refl (omega arith)) (λ x b q k. search (rules, tests))
+    ∙ any_places same cell c.args.n

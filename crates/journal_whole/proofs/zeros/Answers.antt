@@ -1,24 +1,12 @@
 -- `journal_whole::zeros` meets its contract.
-use Prim.Native.Nat.{◌-◌}
-use native.Mathlib.Omega.{arith}
-use Rattle.journal_whole.proofs.Zeroed.{zeros_more, zeros_all, zeros_out, zeros_some}
+use Rattle.std.proofs.Common.{ℕ, rules, tests, arith}
+use Rattle.std.proofs.lemmas.Iterator.{YieldsList-from_slice}
+use Rattle.std.proofs.lemmas.Iterator.Search.{all_from_yields_List}
+use lib.Dec.{eqb}
+use Rattle.journal_whole.proofs.Zeroed.{zeros_part}
 use Rattle.journal_whole.proofs.zeros.Goals as goal
-
-pub loop-i-init : goal.loop-i-init
-loop-i-init c = ((omega arith, omega arith), λ k h. absurd (omega arith))
-
-pub returns-then-j-p : goal.returns-then-j-p
-returns-then-j-p c =
-    zeros_out _ _ c.loop-i.i _ c.loop-i.invariant.1 c.loop-i.p c.loop-i.invariant.0.1 (omega arith)
-
-pub returns-then-word-ne0 : goal.returns-then-word-ne0
-returns-then-word-ne0 c =
-    zeros_some _ _ c.loop-i.i _ c.loop-i.invariant.1 (omega arith) c.loop-i.p _ c.loop-i.invariant.0.1 c.word.ensures (λ z. omega arith)
-
-pub loop-i-preserved : goal.loop-i-preserved
-loop-i-preserved c =
-    ((omega arith, omega arith), zeros_more c.args.j.now _ c.loop-i.i c.loop-i.invariant.1 c.loop-i.p _ c.loop-i.invariant.0.1 c.word.ensures (omega arith))
 
 pub returns : goal.returns
 returns c =
-    zeros_all _ _ c.loop-i.i _ c.loop-i.invariant.1 (omega arith)
+    zeros_part _ _ _ c.min-start.result c.min-within.result (omega arith) (omega arith) _ c.part.ensures.words _
+    (all_from_yields_List (λ (x : ℕ). eqb x 0) _ _ c.all.result c.all.ensures.ran (YieldsList-from_slice c.part.result.now cc) (λ x b q k. search (rules, tests)))

@@ -1,11 +1,7 @@
-use Prim.Native.Nat.{◌-◌, ◌≤◌}
 use lib.ListN.{drop}
 use Rattle.map.specs.Cells.{sets_of}
 use Rattle.mend.specs.Mended.{Mends}
 use Rattle.mend.proofs.mend_all.Given as goal
 
 abbrev pub invariant-loop-f : goal.invariant-loop-f
-invariant-loop-f l = (l.f ≤ l.n) × Mends l.caps l.rows l.t l.marks l.initial.w l.w (drop l.f (sets_of l.t l.marks))
-
-abbrev pub decreases-loop-f : goal.decreases-loop-f
-decreases-loop-f l = l.n - l.f
+invariant-loop-f l = Mends l.caps l.rows l.t l.marks l.initial.w l.w (drop l.f (sets_of l.t l.marks))

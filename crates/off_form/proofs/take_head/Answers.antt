@@ -1,23 +1,27 @@
 -- `off_form::take_head` meets its contract.
-use Rattle.off_form.proofs.Passing.{number_stopped, number_got, passed_stopped, passed_on}
+use Rattle.std.proofs.lemmas.Result.{err_from_is_err_and}
+use Rattle.off_form.proofs.Passing.{took_stopped, took_got, passed_stopped, passed_on}
 use Rattle.off_form.proofs.Heads.{head_title, head_marks, head_cells, head_edges, head_read_lem}
 use Rattle.off_form.proofs.take_head.Goals as goal
 
-pub returns-in-Stop : goal.returns-in-Stop
-returns-in-Stop c = head_title _ _ (passed_stopped _ _ _ c.pass_title.ensures _ c.in-Stop.is)
+pub returns-in_err-behind_title : goal.returns-in_err-behind_title
+returns-in_err-behind_title c =
+    let p = err_from_is_err_and c.from_residual.result c.from_residual.ensures.1 in rw (p.1, p.2) (head_title _ _ (passed_stopped _ _ _ c.pass_title.ensures _ c.in_err-behind_title.was))
 
-pub returns-in-Stop-take_number : goal.returns-in-Stop-take_number
-returns-in-Stop-take_number c =
-    head_marks _ _ (passed_on _ _ _ c.pass_title.ensures _ c.in-On.is) _ (number_stopped _ _ _ c.take_number.ensures _ c.in-Stop-take_number.is)
+pub returns-in_err-marks : goal.returns-in_err-marks
+returns-in_err-marks c =
+    let p = err_from_is_err_and c.from_residual-in_err-marks.result c.from_residual-in_err-marks.ensures.1 in rw (p.1, p.2)
+    (head_marks _ _ (passed_on _ _ _ c.pass_title.ensures _ c.in_ok-behind_title.was) _ (took_stopped _ _ _ c.take.ensures _ c.in_err-marks.was))
 
-pub returns-in-Stop-take_number-2 : goal.returns-in-Stop-take_number-2
-returns-in-Stop-take_number-2 c =
-    head_cells _ _ (passed_on _ _ _ c.pass_title.ensures _ c.in-On.is) _ _ (number_got _ _ _ c.take_number.ensures _ _ c.in-Is.is) _ (number_stopped _ _ _ c.take_number-in-Is.ensures _ c.in-Stop-take_number-2.is)
+pub returns-in_err-cells : goal.returns-in_err-cells
+returns-in_err-cells c =
+    let p = err_from_is_err_and c.from_residual-in_err-cells.result c.from_residual-in_err-cells.ensures.1 in rw (p.1, p.2)
+    (head_cells _ _ (passed_on _ _ _ c.pass_title.ensures _ c.in_ok-behind_title.was) _ _ (took_got _ _ _ c.take.ensures _ _ c.in_ok-marks.was) _ (took_stopped _ _ _ c.take-2.ensures _ c.in_err-cells.was))
 
-pub returns-in-Stop-take_number-3 : goal.returns-in-Stop-take_number-3
-returns-in-Stop-take_number-3 c =
-    head_edges _ _ (passed_on _ _ _ c.pass_title.ensures _ c.in-On.is) _ _ (number_got _ _ _ c.take_number.ensures _ _ c.in-Is.is) _ _ (number_got _ _ _ c.take_number-in-Is.ensures _ _ c.in-Is-take_number.is) _ (number_stopped _ _ _ c.take_number-in-Is-take_number.ensures _ c.in-Stop-take_number-3.is)
+pub returns-in_err-behind : goal.returns-in_err-behind
+returns-in_err-behind c =
+    let p = err_from_is_err_and c.from_residual-in_err-behind.result c.from_residual-in_err-behind.ensures.1 in rw (p.1, p.2)
+    (head_edges _ _ (passed_on _ _ _ c.pass_title.ensures _ c.in_ok-behind_title.was) _ _ (took_got _ _ _ c.take.ensures _ _ c.in_ok-marks.was) _ _ (took_got _ _ _ c.take-2.ensures _ _ c.in_ok-cells.was) _ (took_stopped _ _ _ c.take-3.ensures _ c.in_err-behind.was))
 
-pub returns-in-Is-take_number-2 : goal.returns-in-Is-take_number-2
-returns-in-Is-take_number-2 c =
-    head_read_lem _ _ (passed_on _ _ _ c.pass_title.ensures _ c.in-On.is) _ _ (number_got _ _ _ c.take_number.ensures _ _ c.in-Is.is) _ _ (number_got _ _ _ c.take_number-in-Is.ensures _ _ c.in-Is-take_number.is) _ _ (number_got _ _ _ c.take_number-in-Is-take_number.ensures _ _ c.in-Is-take_number-2.is)
+pub returns : goal.returns
+returns c = head_read_lem _ _ (passed_on _ _ _ c.pass_title.ensures _ c.in_ok-behind_title.was) _ _ (took_got _ _ _ c.take.ensures _ _ c.in_ok-marks.was) _ _ (took_got _ _ _ c.take-2.ensures _ _ c.in_ok-cells.was) _ _ (took_got _ _ _ c.take-3.ensures _ _ c.in_ok-behind.was)

@@ -1,19 +1,16 @@
 -- `off_lines::number_length` meets its contract.
 use native.Mathlib.Omega.{arith}
-use Rattle.off_lines.proofs.Lengths.{counting_start, counting_next, counting_full, counting_done}
+use Rattle.off_lines.proofs.Lengths.{counting_start, counting_on, counting_end, counting_done}
 use Rattle.off_lines.proofs.number_length.Goals as goal
 
-pub loop-m-init : goal.loop-m-init
-loop-m-init c = counting_start _
+pub loop-bytes-init : goal.loop-bytes-init
+loop-bytes-init c = counting_start _
 
-pub returns-then-more-eq0 : goal.returns-then-more-eq0
-returns-then-more-eq0 c = counting_full _ _ _ _ c.loop-m.invariant c.if-more-eq0.true
+pub returns-then-rest-lt10 : goal.returns-then-rest-lt10
+returns-then-rest-lt10 c = counting_done _ _ _ _ c.loop-bytes.invariant c.if-rest-lt10.true
 
-pub overflow_add-bytes : goal.overflow_add-bytes
-overflow_add-bytes c = omega (arith, c.loop-m.invariant.steps)
-
-pub loop-m-preserved : goal.loop-m-preserved
-loop-m-preserved c = counting_next _ _ _ _ c.loop-m.invariant (omega arith) (omega arith)
+pub loop-bytes-preserved : goal.loop-bytes-preserved
+loop-bytes-preserved c = counting_on _ _ _ c.loop-bytes.invariant (omega arith) (omega arith)
 
 pub returns : goal.returns
-returns c = counting_done _ _ _ _ c.loop-m.invariant (omega arith)
+returns c = counting_end _ _ _ c.loop-bytes.invariant (omega arith)

@@ -11,11 +11,11 @@ pub returns-then-not-far : goal.returns-then-not-far
 returns-then-not-far c = fars_no _ _ _ _ _ (not-true _ c.if-not-far.true-raw)
 
 pub loop-k-init : goal.loop-k-init
-loop-k-init c = (omega arith, fills_start _ _ _ _ _)
+loop-k-init c = fills_start _ _ _ _ _
 
 pub loop-k-preserved : goal.loop-k-preserved
 loop-k-preserved c =
-    (omega arith, far_more _ _ _ _ _ _ c.loop-k.k _ c.loop-k.invariant.1 c.word.ensures c.write_far.ensures (omega arith))
+    far_more _ _ _ _ _ _ c.loop-k.k _ c.loop-k.invariant c.word.ensures c.write_far.ensures (omega arith)
 
 pub returns : goal.returns
-returns c = let all : c.loop-k.k ≡ most_marks = omega arith in fars_yes _ _ _ _ _ _ (rw all at c.loop-k.invariant.1) (not-false _ c.if-not-far.false-raw)
+returns c = let all : c.loop-k.k ≡ most_marks = omega arith in fars_yes _ _ _ _ _ _ (rw all at c.loop-k.invariant) (not-false _ c.if-not-far.false-raw)

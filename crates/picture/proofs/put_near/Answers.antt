@@ -6,11 +6,11 @@ use Rattle.store.specs.Layout.{near_marks}
 use Rattle.picture.proofs.put_near.Goals as goal
 
 pub loop-k-init : goal.loop-k-init
-loop-k-init c = (omega arith, fills_start _ _ _ _ _)
+loop-k-init c = fills_start _ _ _ _ _
 
 pub loop-k-preserved : goal.loop-k-preserved
 loop-k-preserved c =
-    (omega arith, near_more _ _ _ _ _ _ c.loop-k.k _ c.loop-k.invariant.1 c.word.ensures c.write_near.ensures (omega arith))
+    near_more _ _ _ _ _ _ c.loop-k.k _ c.loop-k.invariant c.word.ensures c.write_near.ensures (omega arith)
 
 pub returns : goal.returns
-returns c = let all : c.loop-k.k ≡ near_marks = omega arith in rw all at c.loop-k.invariant.1
+returns c = let all : c.loop-k.k ≡ near_marks = omega arith in rw all at c.loop-k.invariant

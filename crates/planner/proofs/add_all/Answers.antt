@@ -1,19 +1,18 @@
 -- `planner::add_all` meets its contract.
-use Prim.Native.Nat.{◌-◌}
+use mathlib.Core.Path.{refl}
 use native.Mathlib.Omega.{arith}
 use Rattle.frames.proofs.Append.{append_length}
 use Rattle.planner.proofs.Removing.{front_none, front_more, front_all}
 use Rattle.planner.proofs.add_all.Goals as goal
 
-pub loop-i-init : goal.loop-i-init
-loop-i-init c = (omega arith, front_none _ _ _)
+pub loop-x-init : goal.loop-x-init
+loop-x-init c = front_none _ _ _
 
-pub loop-i-preserved : goal.loop-i-preserved
-loop-i-preserved c =
-    (omega arith, front_more _ _ c.loop-i.invariant.1 (omega arith) _ c.word.ensures c.add-next.ensures)
+pub loop-x-preserved : goal.loop-x-preserved
+loop-x-preserved c = front_more _ _ c.loop-x.invariant (omega arith) _ refl c.add-next.ensures
 
 pub shape_of-out : goal.shape_of-out
-shape_of-out c = append_length _ c.loop-i.invariant.1
+shape_of-out c = append_length _ c.loop-x.invariant
 
 pub returns : goal.returns
-returns c = front_all _ _ c.loop-i.invariant.1 (omega arith)
+returns c = front_all _ _ c.loop-x.invariant (omega arith)

@@ -1,4 +1,3 @@
-use Prim.Native.Nat.{◌-◌, ◌≤◌}
 use Rattle.lists.specs.Lists.{list_of}
 use Rattle.store.specs.Slots.{corner_in}
 use Rattle.positions.specs.Measures.{coordinates}
@@ -6,7 +5,4 @@ use Rattle.positions.specs.Pointed.{Wrote}
 use Rattle.positions.proofs.write_points.Given as goal
 
 abbrev pub invariant-loop-i : goal.invariant-loop-i
-invariant-loop-i l = (l.i ≤ l.n) × Wrote (coordinates l.positions (list_of l.i (corner_in l.w l.caps l.c.0))) l.initial.out l.out
-
-abbrev pub decreases-loop-i : goal.decreases-loop-i
-decreases-loop-i l = l.n - l.i
+invariant-loop-i l = Wrote (coordinates l.positions (list_of l.i (corner_in l.w l.caps l.c.0))) l.initial.out l.out

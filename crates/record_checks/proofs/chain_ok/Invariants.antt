@@ -1,10 +1,6 @@
-use Prim.Native.Nat.{◌-◌, ◌<◌, ◌≤◌}
+use Prim.Native.Nat.{◌<◌}
 use Rattle.record_checks.proofs.Steps.{Going}
-use Rattle.numbers.specs.Sizes.{most_around}
 use Rattle.record_checks.proofs.chain_ok.Given as goal
 
 abbrev pub invariant-loop-n : goal.invariant-loop-n
-invariant-loop-n l = (l.n ≤ most_around) × (l.link < 4294967296) × Going l.w l.caps l.v.0 l.n l.link l.low
-
-abbrev pub decreases-loop-n : goal.decreases-loop-n
-decreases-loop-n l = most_around - l.n
+invariant-loop-n l = (l.link < 4294967296) × Going l.w l.caps l.v.0 l.n l.link l.low

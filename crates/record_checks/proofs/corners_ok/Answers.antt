@@ -1,23 +1,20 @@
--- `laid::corners_ok` meets its contract.
+-- `record_checks::corners_ok` meets its contract.
 use mathlib.Core.Path.{sym, ◌∙◌}
-use Prim.Native.Nat.{◌-◌}
 use native.Mathlib.Omega.{arith}
 use borrow.Author.Tests.{not-true, not-false}
 use Rattle.lists.proofs.Every.{every_start, every_more, every_stop, every_end}
 use Rattle.record_checks.proofs.corners_ok.Goals as goal
 
 pub loop-k-init : goal.loop-k-init
-loop-k-init c = (omega arith, every_start _)
+loop-k-init c = every_start _
 
 pub returns-then-not-corner_ok : goal.returns-then-not-corner_ok
 returns-then-not-corner_ok c =
-    let at-loop = c.loop-k in
-    every_stop _ _ at-loop.k (omega arith) (sym c.corner_ok.ensures ∙ not-true _ c.if-not-corner_ok.true-raw)
+    every_stop _ _ c.loop-k.k (omega arith) (sym c.corner_ok.ensures ∙ not-true _ c.if-not-corner_ok.true-raw)
 
 pub loop-k-preserved : goal.loop-k-preserved
 loop-k-preserved c =
-    let at-loop = c.loop-k in
-    (omega arith, every_more _ at-loop.k at-loop.invariant.1 (sym c.corner_ok.ensures ∙ not-false _ c.if-not-corner_ok.false-raw))
+    every_more _ c.loop-k.k c.loop-k.invariant (sym c.corner_ok.ensures ∙ not-false _ c.if-not-corner_ok.false-raw)
 
 pub returns : goal.returns
-returns c = every_end _ _ c.loop-k.k c.loop-k.invariant.1 (omega arith) (omega arith)
+returns c = every_end _ _ c.loop-k.k c.loop-k.invariant (omega arith) (omega arith)

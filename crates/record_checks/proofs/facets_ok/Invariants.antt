@@ -1,13 +1,8 @@
 use mathlib.Core.Path.{◌≡◌}
 use mathlib.Core.Bool.{true}
-use Prim.Native.Nat.{◌-◌, ◌≤◌}
 use Rattle.lists.specs.Lists.{every}
 use Rattle.record_checks.specs.Laid.{facet_right}
-use Rattle.shapes.specs.Sizes.{most_facets}
 use Rattle.record_checks.proofs.facets_ok.Given as goal
 
 abbrev pub invariant-loop-f : goal.invariant-loop-f
-invariant-loop-f l = (l.initial.f ≤ l.f) × (every l.f (facet_right l.w l.caps l.c.0 l.initial.f) ≡ true)
-
-abbrev pub decreases-loop-f : goal.decreases-loop-f
-decreases-loop-f l = most_facets - l.f
+invariant-loop-f l = every l.f (facet_right l.w l.caps l.c.0 l.initial.f) ≡ true

@@ -1,14 +1,12 @@
--- `laid::fine` meets its contract.
-use mathlib.Core.Path.{sym, ap, ◌∙◌}
-use mathlib.Core.Bool.{not}
-use Rattle.lists.proofs.Bools.{and_no, and_yes}
+-- `record_checks::fine` meets its contract.
+use Rattle.std.proofs.Common.{arith}
 use Rattle.record_checks.specs.Laid.{fine}
 use Rattle.record_checks.proofs.fine.Goals as goal
 
-pub returns-then-reaches : goal.returns-then-reaches
+pub returns-then-not-reaches : goal.returns-then-not-reaches
 unfolding fine
-returns-then-reaches c = and_no _ _ (ap not (sym c.reaches.ensures ∙ c.if-reaches.true))
+returns-then-not-reaches c = grind arith
 
-pub returns : goal.returns
+pub returns-else-not-reaches : goal.returns-else-not-reaches
 unfolding fine
-returns c = and_yes _ _ _ (ap not (sym c.reaches.ensures ∙ c.if-reaches.false)) (ap not c.repeats.ensures)
+returns-else-not-reaches c = grind arith

@@ -1,12 +1,8 @@
 use mathlib.Core.Path.{◌≡◌}
 use mathlib.Core.Bool.{true}
-use Prim.Native.Nat.{◌-◌, ◌≤◌}
 use Rattle.lists.specs.Lists.{every}
 use Rattle.record_checks.specs.Laid.{mark_right}
 use Rattle.record_checks.proofs.marks_ok.Given as goal
 
 abbrev pub invariant-loop-v : goal.invariant-loop-v
-invariant-loop-v l = (l.v ≤ l.caps.marks) × (every l.v (mark_right l.w l.caps) ≡ true)
-
-abbrev pub decreases-loop-v : goal.decreases-loop-v
-decreases-loop-v l = l.caps.marks - l.v
+invariant-loop-v l = every l.v (mark_right l.w l.caps) ≡ true

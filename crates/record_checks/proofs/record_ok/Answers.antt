@@ -1,44 +1,13 @@
--- `laid::record_ok` meets its contract.
-use mathlib.Core.Path.{sym, ◌∙◌}
-use borrow.Author.Tests.{not-true, not-false}
-use Rattle.lists.proofs.Bools.{and_no, and_yes}
+-- `record_checks::record_ok` meets its contract.
+use Rattle.std.proofs.Common.{arith}
 use Rattle.facet.proofs.Copy.{marks_words}
 use Rattle.record_checks.specs.Laid.{record_right}
 use Rattle.record_checks.proofs.record_ok.Goals as goal
 
-pub returns-then-not-typed : goal.returns-then-not-typed
+pub returns-then-facets_ok : goal.returns-then-facets_ok
 unfolding record_right
-returns-then-not-typed c = rw (← c.code_of-t.ensures) (and_no _ _ (sym c.typed.ensures ∙ not-true _ c.if-not-typed.true-raw))
+returns-then-facets_ok c = let marks = marks_words _ _ _ _ c.marks_at-marks.ensures in grind arith
 
-pub returns-then-not-fine : goal.returns-then-not-fine
+pub returns-else-facets_ok : goal.returns-else-facets_ok
 unfolding record_right
-returns-then-not-fine c =
-    rw (← c.code_of-t.ensures, ← marks_words _ _ _ _ c.marks_at-marks.ensures)
-    (and_yes _ _ _ (sym c.typed.ensures ∙ not-false _ c.if-not-typed.false-raw)
-    (and_no _ _ (sym c.fine.ensures ∙ not-true _ c.if-not-fine.true-raw)))
-
-pub returns-then-not-corners_ok : goal.returns-then-not-corners_ok
-unfolding record_right
-returns-then-not-corners_ok c =
-    rw (← c.code_of-t.ensures, ← marks_words _ _ _ _ c.marks_at-marks.ensures)
-    (and_yes _ _ _ (sym c.typed.ensures ∙ not-false _ c.if-not-typed.false-raw)
-    (and_yes _ _ _ (sym c.fine.ensures ∙ not-false _ c.if-not-fine.false-raw)
-    (and_no _ _ (sym c.corners_ok.ensures ∙ not-true _ c.if-not-corners_ok.true-raw))))
-
-pub returns-then-not-facets_ok : goal.returns-then-not-facets_ok
-unfolding record_right
-returns-then-not-facets_ok c =
-    rw (← c.code_of-t.ensures, ← marks_words _ _ _ _ c.marks_at-marks.ensures)
-    (and_yes _ _ _ (sym c.typed.ensures ∙ not-false _ c.if-not-typed.false-raw)
-    (and_yes _ _ _ (sym c.fine.ensures ∙ not-false _ c.if-not-fine.false-raw)
-    (and_yes _ _ _ (sym c.corners_ok.ensures ∙ not-false _ c.if-not-corners_ok.false-raw)
-    (and_no _ _ (sym c.facets_ok.ensures ∙ not-true _ c.if-not-facets_ok.true-raw)))))
-
-pub returns : goal.returns
-unfolding record_right
-returns c =
-    rw (← c.code_of-t.ensures, ← marks_words _ _ _ _ c.marks_at-marks.ensures)
-    (and_yes _ _ _ (sym c.typed.ensures ∙ not-false _ c.if-not-typed.false-raw)
-    (and_yes _ _ _ (sym c.fine.ensures ∙ not-false _ c.if-not-fine.false-raw)
-    (and_yes _ _ _ (sym c.corners_ok.ensures ∙ not-false _ c.if-not-corners_ok.false-raw)
-    (and_yes _ _ _ (sym c.facets_ok.ensures ∙ not-false _ c.if-not-facets_ok.false-raw) c.rest_ok.ensures))))
+returns-else-facets_ok c = let marks = marks_words _ _ _ _ c.marks_at-marks.ensures in grind arith

@@ -1,19 +1,17 @@
--- `laid::stands` meets its contract.
-use Rattle.record_checks.proofs.Steps.{stands_early, stands_past, stands_few, stands_here}
+-- `record_checks::stands` meets its contract.
+use Rattle.std.proofs.Common.{arith}
 use Rattle.facet.proofs.Copy.{marks_words}
+use Rattle.record_checks.specs.Laid.{stands}
 use Rattle.record_checks.proofs.stands.Goals as goal
 
 pub returns-then-c-low : goal.returns-then-c-low
-returns-then-c-low c = stands_early _ _ _ _ _ _ c.if-c-low.true
+unfolding stands
+returns-then-c-low c = grind arith
 
-pub returns-then-caps-c : goal.returns-then-caps-c
-returns-then-caps-c c = stands_past _ _ _ _ _ _ c.if-c-low.false c.if-caps-c.true
+pub returns-then-k-marks : goal.returns-then-k-marks
+unfolding stands
+returns-then-k-marks c = let marks = marks_words _ _ _ _ c.marks_at-marks.ensures in grind arith
 
-pub returns-then-marks-k : goal.returns-then-marks-k
-returns-then-marks-k c =
-    let left = c.if-c-low.false in
-    stands_few _ _ _ _ _ _ left c.if-caps-c.false _ (marks_words _ _ _ _ c.marks_at-marks.ensures) c.if-marks-k.true
-
-pub returns : goal.returns
-returns c =
-    stands_here _ _ _ _ _ _ c.if-c-low.false c.if-caps-c.false _ (marks_words _ _ _ _ c.marks_at-marks.ensures) c.if-marks-k.false
+pub returns-else-k-marks : goal.returns-else-k-marks
+unfolding stands
+returns-else-k-marks c = let marks = marks_words _ _ _ _ c.marks_at-marks.ensures in grind arith

@@ -1,16 +1,12 @@
--- `laid::typed` meets its contract.
-use mathlib.Core.Path.{sym, ap}
-use Prim.Native.Nat.{ℕ}
-use borrow.Author.Tests.{eq-eqb, ne_eqb}
-use lib.Dec.{ltb}
-use Rattle.lists.proofs.Bools.{or_left}
+-- `record_checks::typed` meets its contract.
+use Rattle.std.proofs.Common.{arith}
 use Rattle.record_checks.specs.Laid.{typed}
 use Rattle.record_checks.proofs.typed.Goals as goal
 
 pub returns-then-code-eq0 : goal.returns-then-code-eq0
 unfolding typed
-returns-then-code-eq0 c = sym (or_left _ _ (eq-eqb _ _ c.if-code-eq0.true))
+returns-then-code-eq0 c = grind arith
 
-pub returns : goal.returns
+pub returns-else-code-eq0 : goal.returns-else-code-eq0
 unfolding typed
-returns c = rw (ne_eqb _ _ c.if-code-eq0.false) (ap (λ (d : ℕ). ltb 0 d) c.dimension.ensures)
+returns-else-code-eq0 c = grind arith

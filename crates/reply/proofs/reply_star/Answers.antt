@@ -4,10 +4,10 @@ use Rattle.reply.proofs.Answered.{star_lists, listing_refused, listing_replied}
 use borrow.Author.Rules.{rules}
 use Rattle.reply.proofs.reply_star.Goals as goal
 
-pub returns-in-Refused : goal.returns-in-Refused
-returns-in-Refused c =
-    listing_refused _ _ _ _ _ _ _ _ (star_lists _ _) _ _ _ _ (search rules) c.star.ensures _ c.in-Refused.is c.write_verdict.ensures
+pub returns-in-Err : goal.returns-in-Err
+returns-in-Err c =
+    listing_refused _ _ _ _ _ _ _ _ (star_lists _ _) _ _ _ _ (search rules) c.star.ensures _ c.in-Err.is c.write_verdict.ensures
 
-pub returns-in-Is : goal.returns-in-Is
-returns-in-Is c =
-    listing_replied _ _ _ _ _ _ _ _ (star_lists _ _) _ _ _ _ (search rules) c.star.ensures _ c.in-Is.is _ _ (omega arith) c.part.ensures.words (search rules) c.write_cells.ensures
+pub returns-in-Ok : goal.returns-in-Ok
+returns-in-Ok c =
+    listing_replied _ _ _ _ _ _ _ _ (star_lists _ _) _ _ _ _ (search rules) c.star.ensures _ c.in-Ok.is _ _ (omega arith) c.part.ensures.words (search rules) c.write_cells.ensures

@@ -1,17 +1,15 @@
 -- `sibling::rotates` meets its contract.
+use mathlib.Core.Path.{refl}
 use native.Mathlib.Omega.{arith}
-use Rattle.sibling.proofs.Turned.{turns_start, turns_more, turns_stop, turns_end}
+use lib.ListN.{length}
+use borrow.Author.Rules.{rules}
+use borrow.Author.Tests.{tests}
+use Rattle.std.proofs.lemmas.Iterator.{YieldsList-from_range}
+use Rattle.std.proofs.lemmas.Iterator.Search.{any_from_yields_List}
+use Rattle.sibling.proofs.Turned.{turns}
 use Rattle.sibling.proofs.rotates.Goals as goal
 
-pub loop-n-init : goal.loop-n-init
-loop-n-init c = (omega arith, turns_start _ _ _)
-
-pub returns-then-same_turned : goal.returns-then-same_turned
-returns-then-same_turned c =
-    turns_stop _ _ _ _ _ c.loop-n.invariant.1 c.same_turned.ensures (omega arith) c.if-same_turned.true
-
-pub loop-n-preserved : goal.loop-n-preserved
-loop-n-preserved c = (omega arith, turns_more _ _ _ _ _ c.loop-n.invariant.1 c.same_turned.ensures c.if-same_turned.false)
-
 pub returns : goal.returns
-returns c = turns_end _ _ _ _ c.loop-n.invariant.1 (omega arith) (omega arith)
+returns c =
+    rw (turns c.args.b.now c.args.back c.args.a.now)
+    (any_from_yields_List _ _ _ _ c.any.ensures.ran (YieldsList-from_range 0 _ (length c.args.b.now) refl (omega arith)) (λ x b q k. search (rules, tests)))

@@ -1,4 +1,5 @@
 -- `sibling::same_turned` meets its contract.
+use mathlib.Core.Path.{refl}
 use native.Mathlib.Omega.{arith}
 use Rattle.sibling.proofs.Turned.{same_sizes, agree_start, agree_more, agree_stop, agree_end}
 use Rattle.sibling.proofs.same_turned.Goals as goal
@@ -7,21 +8,19 @@ pub returns-then-a-b : goal.returns-then-a-b
 returns-then-a-b c = same_sizes _ _ _ _ c.if-a-b.true
 
 pub loop-k-init : goal.loop-k-init
-loop-k-init c = (omega arith, agree_start _ _ _ _ c.if-a-b.false)
+loop-k-init c = agree_start _ _ _ _ c.if-a-b.false
 
-pub returns-then-word : goal.returns-then-word
-returns-then-word c =
+pub returns-then-x-word : goal.returns-then-x-word
+returns-then-x-word c =
     let loop = c.loop-k in
-    agree_stop _ _ _ _ _ _ _ _ _ loop.invariant.1 c.word.ensures c.word-in-loop-k.ensures c.end_place-at.ensures
-    c.turned_place.ensures (omega arith) c.if-word.true
+    agree_stop _ _ _ _ _ _ _ _ _ loop.invariant refl c.word.ensures c.end_place-at.ensures
+    c.turned_place.ensures (omega arith) c.if-x-word.true
 
 pub loop-k-preserved : goal.loop-k-preserved
 loop-k-preserved c =
-    let loop = c.loop-k in (
-      omega arith,
-      agree_more _ _ _ _ _ _ _ _ _ loop.invariant.1 c.word.ensures c.word-in-loop-k.ensures c.end_place-at.ensures
-          c.turned_place.ensures c.if-word.false,
-    )
+    let loop = c.loop-k in
+    agree_more _ _ _ _ _ _ _ _ _ loop.invariant refl c.word.ensures c.end_place-at.ensures
+    c.turned_place.ensures c.if-x-word.false
 
 pub returns : goal.returns
-returns c = agree_end _ _ _ _ _ c.loop-k.invariant.1 (omega arith) (omega arith)
+returns c = agree_end _ _ _ _ _ c.loop-k.invariant (omega arith) (omega arith)

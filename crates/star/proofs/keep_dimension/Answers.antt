@@ -5,22 +5,20 @@ use Rattle.star.proofs.keep_dimension.Goals as goal
 use Rattle.star.proofs.keep_dimension.Goals.{then-dimension-d, else-dimension-d}
 
 pub loop-i-init : goal.loop-i-init
-loop-i-init c = (omega arith, omega arith, kept_start _ _ _ _ _)
+loop-i-init c = (omega arith, kept_start _ _ _ _ _)
 
 pub loop-i-preserved : goal.loop-i-preserved
 loop-i-preserved c =
     elim c.if-dimension-d.branch [
       | then-dimension-d w ↦ (
-        omega arith,
-        omega (arith, w.k-is, c.loop-i.invariant.1),
-        rw (w.k-is, w.out-is) (kept_yes _ _ _ _ _ c.loop-i.i _ _ _ _ _ _ c.loop-i.invariant.2 c.word.ensures c.code_of.ensures c.dimension.ensures w.if-dimension-d.true w.put.ensures),
+        omega (arith, w.k-is, c.loop-i.invariant.0),
+        rw (w.k-is, w.out-is) (kept_yes _ _ _ _ _ c.loop-i.i _ _ _ _ _ _ c.loop-i.invariant.1 c.word.ensures c.code_of.ensures c.dimension.ensures w.if-dimension-d.true w.put.ensures),
       )
       | else-dimension-d w ↦ (
-        omega arith,
-        omega (arith, w.k-is, c.loop-i.invariant.1),
-        rw (w.k-is, w.out-is) (kept_no _ _ _ _ _ c.loop-i.i _ _ _ _ _ c.loop-i.invariant.2 c.word.ensures c.code_of.ensures c.dimension.ensures w.if-dimension-d.false),
+        omega (arith, w.k-is, c.loop-i.invariant.0),
+        rw (w.k-is, w.out-is) (kept_no _ _ _ _ _ c.loop-i.i _ _ _ _ _ c.loop-i.invariant.1 c.word.ensures c.code_of.ensures c.dimension.ensures w.if-dimension-d.false),
       )
     ]
 
 pub returns : goal.returns
-returns c = kept_end _ _ _ _ _ _ c.loop-i.i _ _ c.loop-i.invariant.2 c.loop-i.invariant.0 (omega arith)
+returns c = kept_end _ _ _ _ _ _ c.loop-i.i _ _ c.loop-i.invariant.1 (omega arith) (omega arith)

@@ -1,6 +1,8 @@
 -- `wanted::stands` meets its contract.
 use native.Mathlib.Omega.{arith}
 use Rattle.wanted.proofs.Standing.{stands_outside, stands_dead, stands_other, stands_licence, stands_marks}
+use mathlib.Core.Path.{◌∙◌}
+use Rattle.lists.proofs.Tested.{pointwise_same}
 use Rattle.wanted.proofs.stands.Goals as goal
 
 pub returns-then-caps-c : goal.returns-then-caps-c
@@ -19,4 +21,4 @@ returns-then-licence_of-licence c =
 
 pub returns : goal.returns
 returns c =
-    stands_marks _ _ _ _ _ _ (omega arith) _ c.code_of-code.ensures c.if-code-eq0.false c.if-code-t.false _ c.licence_of.ensures c.if-licence_of-licence.false _ c.marks_at.ensures.part.words _ c.same_words.ensures
+    stands_marks _ _ _ _ _ _ (omega arith) _ c.code_of-code.ensures c.if-code-eq0.false c.if-code-t.false _ c.licence_of.ensures c.if-licence_of-licence.false _ c.marks_at.ensures.part.words _ (c.eq.ensures ∙ pointwise_same _ _)

@@ -1,18 +1,8 @@
 -- `whole::all_lone` meets its contract.
-use Rattle.whole.proofs.Loops.{sees_start, sees_more, sees_stop, sees_end}
-use borrow.Author.Tests.{not-true, not-false}
-use Prim.Native.Nat.{◌-◌}
-use native.Mathlib.Omega.{arith}
+use borrow.Author.Rules.{rules}
+use mathlib.Core.Path.{refl}
+use Rattle.whole.proofs.Ranges.{sees_below}
 use Rattle.whole.proofs.all_lone.Goals as goal
 
-pub loop-c-init : goal.loop-c-init
-loop-c-init c = (omega arith, sees_start _ _ _ _)
-
-pub returns-then-not-lone : goal.returns-then-not-lone
-returns-then-not-lone c = sees_stop _ _ _ _ _ c.loop-c.c _ (omega arith) c.lone.ensures (not-true _ c.if-not-lone.true-raw)
-
-pub loop-c-preserved : goal.loop-c-preserved
-loop-c-preserved c = (omega arith, sees_more _ _ _ _ _ c.loop-c.c _ (omega arith) c.lone.ensures c.loop-c.invariant.1 (not-false _ c.if-not-lone.false-raw))
-
 pub returns : goal.returns
-returns c = sees_end _ _ _ _ _ c.loop-c.c c.loop-c.invariant.1 (omega arith) (omega arith)
+returns c = sees_below _ _ _ _ refl _ _ _ _ c.all.ensures.ran (λ x q k. search rules) (λ x q k. search rules)

@@ -1,13 +1,21 @@
 -- `year::not_allowed` meets its contract.
+use mathlib.Core.Path.{sym, ◌∙◌}
 use native.Mathlib.Omega.{arith}
+use borrow.Author.Tests.{ltb-true, ltb-false, not-true, not-false}
 use Rattle.year.proofs.Allowing.{not_ever, not_late, not_year}
 use Rattle.year.proofs.not_allowed.Goals as goal
 
-pub returns-then-ever_of-eq0 : goal.returns-then-ever_of-eq0
-returns-then-ever_of-eq0 c = not_ever _ _ _ _ (omega arith)
+pub returns-then-not-ever_of : goal.returns-then-not-ever_of
+returns-then-not-ever_of c =
+    let none = ltb-false _ _ (sym c.ever_of.ensures ∙ not-true _ c.if-not-ever_of.true-raw) in
+    not_ever _ _ _ _ (omega (arith, none))
 
-pub returns-then-day-fold_of : goal.returns-then-day-fold_of
-returns-then-day-fold_of c = not_late _ _ _ _ (λ z. omega arith) (omega arith)
+pub returns-then-folded : goal.returns-then-folded
+returns-then-folded c =
+    let some = ltb-true _ _ (sym c.ever_of.ensures ∙ not-false _ c.if-not-ever_of.false-raw) in
+    not_late _ _ _ _ (λ z. omega (arith, some)) _ c.is_folded-folded.ensures c.if-folded.true
 
 pub returns : goal.returns
-returns c = not_year _ _ _ _ (λ z. omega arith) (omega arith) _ c.last_of.ensures
+returns c =
+    let some = ltb-true _ _ (sym c.ever_of.ensures ∙ not-false _ c.if-not-ever_of.false-raw) in
+    not_year _ _ _ _ (λ z. omega (arith, some)) _ c.is_folded-folded.ensures c.if-folded.false _ c.last_of.ensures
