@@ -12,7 +12,8 @@ ghost use Rattle.lists.specs.Lists.{has, any, all, same_set, repeats};
 pub fn has(l: &[u32], v: u32) -> bool
     ensures { result ≡ has v l.now }
 {
-    l.contains(&v)
+    // not `contains`: on the few marks of a facet it costs twice as much
+    l.iter().any(|x| *x == v)
 }
 
 // All of a are in b.
