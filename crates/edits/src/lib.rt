@@ -60,8 +60,10 @@ pub fn tallied(t: Tally, r: Result<usize, Stopped>) -> Tally
 fn step_of(v: Result<(), Refusal>, words: usize) -> Result<usize, Refusal>
     ensures { result ≡ step_of v words }
 {
-    v?;
-    Ok(words)
+    match v {
+        Err(why) => Err(why),
+        Ok(()) => Ok(words),
+    }
 }
 
 // The edit of this kind from the first of the words on; how many words it takes.

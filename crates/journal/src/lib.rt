@@ -20,7 +20,7 @@ use checks::about_cell;
 use insert_checks::about_insert;
 use journal_store::{
     Entry, HEAD_WORDS, Head, Kind, copy_words, entries_of, fold_of, is_journal, last_of, places_of,
-    used_of, write_entry, write_head,
+    put_entry, put_head, used_of,
 };
 use map::Refusal;
 use mesh::{insert_licensed, remove};
@@ -52,7 +52,7 @@ pub fn begin(mesh: &[u32], j: &mut [u32], start: &mut [u32]) -> Result<(), Refus
         ever: false,
         fold: None,
     };
-    write_head(j, caps, head);
+    put_head(j, caps, head);
     Ok(())
 }
 
@@ -101,8 +101,8 @@ fn append(j: &mut [u32], caps: Caps, dated: Entry<'_>)
         ever: true,
         fold,
     };
-    write_entry(j, n, dated);
-    write_head(j, caps, head);
+    put_entry(j, n, dated);
+    put_head(j, caps, head);
 }
 
 // A cell with a licence inserted on a day, and entered.

@@ -75,22 +75,19 @@ copied_part w ys at k n fits size e = record {
     outside x ne (no f) (no g) = grind (arith, places)
 
 -- the words of a list, and 0 behind them, up to the end of memory
-module _ (l w ys zs : List ℕ) (at n p c : ℕ) where
-  pub copied_filled : at ≤ length w → p ≡ min n (length w - at) → c ≡ min p (length l) → ys ≡ take c l
-      → zs ≡ replicate (length (take (at + p - (at + c)) (drop (at + c) (put_mid at (at + c - at) w ys)))) 0
-      → Copied l at n w (put_mid (at + c) (at + p - (at + c)) (put_mid at (at + c - at) w ys) zs)
-  copied_filled inside ep ec ey ez = record {
+module _ (l w w' zs : List ℕ) (at n p c : ℕ) where
+  pub copied_filled : at ≤ length w → p ≡ min n (length w - at) → c ≡ min p (length l) → Copied l at c w w'
+      → zs ≡ replicate (length (take (at + p - (at + c)) (drop (at + c) w'))) 0
+      → Copied l at n w (put_mid (at + c) (at + p - (at + c)) w' zs)
+  copied_filled inside ep ec front ez = record {
     only = only_wider (λ k q. (q.0, omega arith)) both.only;
     words = λ i less m. both.words i (omega arith) m ∙ like i (omega arith) (dec_lt i c);
   }
     where
-      sized : length ys ≡ c
-      sized = rw ey (length-take-le c l (omega arith))
+      head : Copied (take c l) at c w w'
+      head = record { only = front.only; words = λ i less m. front.words i less m ∙ grind (arith, places) }
 
-      front : Copied ys at c w (put_mid at (at + c - at) w ys)
-      front = copied_part w ys at (at + c - at) c (omega arith) sized (omega arith)
-
-      rest : length (take (at + p - (at + c)) (drop (at + c) (put_mid at (at + c - at) w ys))) ≡ p - c
+      rest : length (take (at + p - (at + c)) (drop (at + c) w')) ≡ p - c
       rest = grind (arith, places, front.only.size)
 
       zeros : zs ≡ replicate (p - c) 0
@@ -99,15 +96,15 @@ module _ (l w ys zs : List ℕ) (at n p c : ℕ) where
       padded : length zs ≡ p - c
       padded = rw zeros (length-replicate (p - c) 0)
 
-      both : Copied (ys ++ zs) at p w (put_mid (at + c) (at + p - (at + c)) (put_mid at (at + c - at) w ys) zs)
+      both : Copied (take c l ++ zs) at p w (put_mid (at + c) (at + p - (at + c)) w' zs)
       both =
-          copied_then ys zs w (put_mid at (at + c - at) w ys) (put_mid (at + c) (at + p - (at + c)) (put_mid at (at + c - at) w ys) zs) at (at + c) c (p - c) p front
-          (copied_part (put_mid at (at + c - at) w ys) zs (at + c) (at + p - (at + c)) (p - c) (omega (arith, front.only.size)) padded (omega arith))
-          refl sized (omega arith)
+          copied_then (take c l) zs w w' (put_mid (at + c) (at + p - (at + c)) w' zs) at (at + c) c (p - c) p head
+          (copied_part w' zs (at + c) (at + p - (at + c)) (p - c) (omega (arith, front.only.size)) padded (omega arith))
+          refl (length-take-le c l (omega arith)) (omega arith)
 
-      like : (i : ℕ) → i < p → Dec (i < c) → get_or (ys ++ zs) i 0 ≡ get_or l i 0
-      like i less (yes h) = rw ey (grind (arith, places))
-      like i less (no f) = rw zeros (grind (arith, places, sized, get_or-eq_default l 0 {n = i}))
+      like : (i : ℕ) → i < p → Dec (i < c) → get_or (take c l ++ zs) i 0 ≡ get_or l i 0
+      like i less (yes h) = grind (arith, places)
+      like i less (no f) = rw zeros (grind (arith, places, get_or-eq_default l 0 {n = i}))
 
 -- the words moved so far
 pub record Moving (n k i : ℕ) (w w' : List ℕ) : Type 0 where

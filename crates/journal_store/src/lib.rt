@@ -1,14 +1,15 @@
 // The journal in lent words: a head of 16 words, then 16 words an edit.
 //
 // What is here: `is_journal` tells whether memory is a journal of given capacities; for each word of the head and of an entry that others ask
-// for one reader (`entries_of`, `day_of`, ..); `write_head` and `write_entry` write the words of a `Head` and of an `Entry`, `move_entries`
-// moves entries to the front, `copy_words` copies words. All are total. What is proved: each answer is told by specs/Journals.antt and
-// specs/Told.antt, and all memory as it is left by specs/Writes.antt. What a caller should know: specs/Days.antt says what the days mean, over
-// the list of dated edits alone; no other crate knows a word's number, nor the number of a kind.
+// for one reader (`entries_of`, `day_of`, ..), and what it stands for (`was_entered`, `kind_at`, ..); `write_head` and `write_entry` write the
+// words of a head and of an entry, `put_head` and `put_entry` those of a `Head` and of an `Entry`, `move_entries` moves entries to the front,
+// `copy_words` copies words. All are total. What is proved: each answer is told by specs/Journals.antt and specs/Told.antt, and all memory as
+// it is left by specs/Writes.antt. What a caller should know: specs/Days.antt says what the days mean, over the list of dated edits alone;
+// other crates of the library ask for what a word stands for, so that none knows a word's number, nor the number of a kind.
 #![tactic(auto)]
 
 ghost use Rattle.std.specs.Prelude.{◌≡◌, ◌+◌, get_or, leb, length, ltb};
-ghost use Rattle.journal_store.specs.Entries.{entry_at, places_of, used_of};
+ghost use Rattle.journal_store.specs.Entries.{entry_at, head_of, entry_of, places_of, used_of};
 ghost use Rattle.journal_store.specs.Journals.{entries_in, last_in, ever_in, fold_in, day_in, type_in, licence_in, is_journal, Counted};
 ghost use Rattle.journal_store.specs.Told.{kind_word, KindTold, fold_word, FoldTold, head_told, entry_told};
 ghost use Rattle.journal_store.specs.Writes.{Copied, Moved};
@@ -121,18 +122,25 @@ pub fn last_of(j: &[u32]) -> u32
     word(j, 5)
 }
 
+// The word that tells whether an edit was ever entered: 1 if one was.
+pub fn ever_of(j: &[u32]) -> u32
+    ensures { result ≡ ever_in j.now }
+{
+    word(j, 6)
+}
+
 // Whether an edit was ever entered.
-pub fn ever_of(j: &[u32]) -> bool
+pub fn was_entered(j: &[u32]) -> bool
     ensures { result ≡ ltb 0 (ever_in j.now) }
 {
-    0 < word(j, 6)
+    0 < ever_of(j)
 }
 
 // Whether the word that tells it is 0 or 1, as it is left here.
 pub fn ever_is_told(j: &[u32]) -> bool
     ensures { result ≡ leb (ever_in j.now) 1 }
 {
-    word(j, 6) <= 1
+    ever_of(j) <= 1
 }
 
 // The first day that was not folded.
@@ -164,11 +172,18 @@ pub fn day_of(j: &[u32], k: u32) -> u32
     word(j, entry_at(k))
 }
 
+// The word of its edit's kind.
+pub fn kind_of(j: &[u32], k: u32) -> u32
+    ensures { result ≡ get_or j.now (entry_at k + 1) 0 }
+{
+    word(j, entry_at(k) + 1)
+}
+
 // The kind of its edit; none where its word tells none.
-pub fn kind_of(j: &[u32], k: u32) -> Option<Kind>
+pub fn kind_at(j: &[u32], k: u32) -> Option<Kind>
     ensures { KindTold (get_or j.now (entry_at k + 1) 0) result }
 {
-    match word(j, entry_at(k) + 1) {
+    match kind_of(j, k) {
         INSERT => Some(Kind::Insert),
         REMOVE => Some(Kind::Remove),
         _ => None,
@@ -210,8 +225,28 @@ pub fn copy_words(from: &[u32], to: &mut [u32], at: usize, n: usize)
     }
     let places = n.min(to.len() - at);
     let copied = places.min(from.len());
-    to[at..at + copied].copy_from_slice(&from[..copied]);
+    // not `copy_from_slice`, for which an archive for C would want memmove from outside
+    for i in 0..copied {
+        to[at + i] = from[i];
+    }
     to[at + copied..at + places].fill(0);
+}
+
+// The head of a journal, all its 16 words.
+pub fn write_head(j: &mut [u32], caps: Caps, entries: u32, last: u32, ever: u32, fold: u32)
+    ensures { Copied (head_of caps entries last ever fold) 0 16 j.old j.new }
+{
+    let words = [
+        MAGIC,
+        caps.marks,
+        caps.cells,
+        caps.edition,
+        entries,
+        last,
+        ever,
+        fold,
+    ];
+    copy_words(&words, j, 0, HEAD_WORDS);
 }
 
 // The word of a last fold.
@@ -224,22 +259,31 @@ fn fold_word(fold: Option<u32>) -> u32
     }
 }
 
-// The head of a journal, all its 16 words.
-pub fn write_head(j: &mut [u32], caps: Caps, head: Head)
+// The head of a journal, by what it tells.
+pub fn put_head(j: &mut [u32], caps: Caps, head: Head)
     ensures { Copied (head_told caps head) 0 16 j.old j.new }
 {
     let fold = fold_word(head.fold);
-    let words = [
-        MAGIC,
-        caps.marks,
-        caps.cells,
-        caps.edition,
-        head.entries,
-        head.last,
-        head.ever as u32,
-        fold,
-    ];
-    copy_words(&words, j, 0, HEAD_WORDS);
+    write_head(j, caps, head.entries, head.last, head.ever as u32, fold);
+}
+
+// An entry, all its 16 words.
+pub fn write_entry(
+    j: &mut [u32],
+    k: u32,
+    day: u32,
+    kind: u32,
+    c: Cell,
+    t: u32,
+    licence: u32,
+    marks: &[u32],
+)
+    ensures { Copied (entry_of day kind c.0 t licence marks.now) (entry_at k) 16 j.old j.new }
+{
+    let words = [day, kind, c.0, t, licence];
+    let at = entry_at(k);
+    copy_words(&words, j, at, FIRST_WORDS);
+    copy_words(marks, j, at + FIRST_WORDS, MARK_WORDS);
 }
 
 // The word of a kind.
@@ -252,15 +296,21 @@ fn kind_word(kind: Kind) -> u32
     }
 }
 
-// An entry, all its 16 words.
-pub fn write_entry(j: &mut [u32], k: u32, dated: Entry<'_>)
+// An entry, by what it is.
+pub fn put_entry(j: &mut [u32], k: u32, dated: Entry<'_>)
     ensures { Copied (entry_told dated.entry) (entry_at k) 16 j.old j.new }
 {
     let kind = kind_word(dated.kind);
-    let words = [dated.day, kind, dated.cell.0, dated.code, dated.licence];
-    let at = entry_at(k);
-    copy_words(&words, j, at, FIRST_WORDS);
-    copy_words(dated.marks, j, at + FIRST_WORDS, MARK_WORDS);
+    write_entry(
+        j,
+        k,
+        dated.day,
+        kind,
+        dated.cell,
+        dated.code,
+        dated.licence,
+        dated.marks,
+    );
 }
 
 // Of n entries the first k are taken out, and the others moved to the front.

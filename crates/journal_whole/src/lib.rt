@@ -11,8 +11,8 @@ ghost use Rattle.journal_store.specs.Journals.{fold_in};
 ghost use Rattle.journal_whole.specs.Checks.{Zeros, EntryGood, EntriesGood, head_good, WholeJournal};
 
 use journal_store::{
-    HEAD_WORDS, Kind, day_of, entries_of, ever_is_told, ever_of, first_of, fold_of, is_journal,
-    kind_of, last_of, licence_of, marks_at, type_of, used_of,
+    HEAD_WORDS, Kind, day_of, entries_of, ever_is_told, first_of, fold_of, is_journal, kind_at,
+    last_of, licence_of, marks_at, type_of, used_of, was_entered,
 };
 use shapes::mark_count;
 use store::open;
@@ -44,7 +44,7 @@ fn entry_good(j: &[u32], k: u32) -> bool
 {
     let t = type_of(j, k);
     let at = marks_at(k);
-    match kind_of(j, k) {
+    match kind_at(j, k) {
         Some(Kind::Insert) => {
             let n = mark_count(t) as usize;
             zeros(j, at + n, MARK_WORDS - n)
@@ -89,9 +89,9 @@ fn head_good(j: &[u32]) -> bool
     let n = entries_of(j);
     let last = last_of(j);
     if n == 0 {
-        return last == 0 && !ever_of(j) && first_of(j) == 0;
+        return last == 0 && !was_entered(j) && first_of(j) == 0;
     }
-    ever_of(j)
+    was_entered(j)
         && ever_is_told(j)
         && last == day_of(j, n - 1)
         && last <= MOST_DAY

@@ -20,7 +20,12 @@ pub fn has(l: &[u32], v: u32) -> bool
 pub fn subset(a: &[u32], b: &[u32]) -> bool
     ensures { result ≡ all (λ x. has x b.now) a.now }
 {
-    a.iter().all(|x| has(b, *x))
+    for i in 0..a.len() {
+        if !has(b, a[i]) {
+            return false;
+        }
+    }
+    true
 }
 
 // Equal sets, whatever the order.

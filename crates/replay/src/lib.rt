@@ -12,7 +12,7 @@ ghost use Rattle.mesh.specs.Edited.{Edited};
 ghost use Rattle.mesh.specs.Run.{Run};
 ghost use Rattle.replay.specs.Replayed.{Replayed};
 
-use journal_store::{Kind, cell_of, copy_words, kind_of, licence_of, marks_at, type_of};
+use journal_store::{Kind, cell_of, copy_words, kind_at, licence_of, marks_at, type_of};
 use map::Refusal;
 use mesh::{insert_licensed, remove};
 use numbers::Cell;
@@ -24,7 +24,7 @@ fn one_entry(w: &mut [u32], j: &[u32], k: u32) -> Result<(), Refusal>
     ensures { Edited w.old (edit_in j.now k) result w.new }
 {
     let c = Cell(cell_of(j, k));
-    match kind_of(j, k) {
+    match kind_at(j, k) {
         Some(Kind::Insert) => {
             let t = type_of(j, k);
             let licence = licence_of(j, k);

@@ -13,7 +13,8 @@ ghost use Rattle.journal_store.specs.Journals.{last_in, ever_in, fold_in};
 ghost use Rattle.year.specs.Calls.{day_opened, OnDay, Folded};
 
 use journal_store::{
-    Head, count_up_to, entries_of, ever_of, fold_of, is_journal, last_of, move_entries, write_head,
+    Head, count_up_to, entries_of, fold_of, is_journal, last_of, move_entries, put_head,
+    was_entered,
 };
 use map::Refusal;
 use numbers::Caps;
@@ -66,7 +67,7 @@ pub fn map_on(j: &[u32], start: &[u32], day: u32, second: &mut [u32]) -> Result<
 fn not_allowed(j: &[u32], day: u32) -> bool
     ensures { result ≡ not_allowed (ever_in j.now) (fold_in j.now) (last_in j.now) day }
 {
-    if !ever_of(j) {
+    if !was_entered(j) {
         return true;
     }
     let folded = is_folded(j, day);
@@ -99,6 +100,6 @@ pub fn fold(j: &mut [u32], start: &mut [u32], day: u32) -> Result<(), Refusal>
         ever: true,
         fold: Some(day),
     };
-    write_head(j, caps, head);
+    put_head(j, caps, head);
     Ok(())
 }

@@ -11,4 +11,4 @@ overflow_add-head c =
 
 pub returns : goal.returns
 returns c =
-    appended _ _ _ _ _ _ _ _ _ c.entries_of-n.ensures refl c.fold_of-fold.ensures.written (omega (arith, c.requires, c.entries_of-n.ensures)) c.write_entry.ensures c.write_head.ensures
+    appended _ _ _ _ _ _ _ _ _ c.entries_of-n.ensures refl c.fold_of-fold.ensures.written (omega (arith, c.requires, c.entries_of-n.ensures)) c.put_entry.ensures c.put_head.ensures

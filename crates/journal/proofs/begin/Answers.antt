@@ -18,4 +18,4 @@ returns-then-start-room c = begin_room _ _ _ _ (sym c.in_ok-caps.was ∙ c.«ope
 
 pub returns : goal.returns
 returns c =
-    begin_made _ _ _ _ (sym c.in_ok-caps.was ∙ c.«open».ensures) (omega (arith, c.if-j-lt-HEAD_WORDS.false)) _ c.room_of-room.ensures (omega (arith, c.if-start-room.false)) _ _ _ _ _ c.copy_words.ensures c.used_of-used.ensures c.part.ensures.words c.copy_words-2.ensures c.write_head.ensures
+    begin_made _ _ _ _ (sym c.in_ok-caps.was ∙ c.«open».ensures) (omega (arith, c.if-j-lt-HEAD_WORDS.false)) _ c.room_of-room.ensures (omega (arith, c.if-start-room.false)) _ _ _ _ _ c.copy_words.ensures c.used_of-used.ensures c.part.ensures.words c.copy_words-2.ensures c.put_head.ensures

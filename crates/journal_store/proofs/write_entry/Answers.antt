@@ -2,12 +2,11 @@
 use mathlib.Core.Path.{refl}
 use mathlib.Core.List.{[], ◌∷◌}
 use native.Mathlib.Omega.{arith}
-use Rattle.journal_store.specs.Told.{kind_word}
 use Rattle.journal_store.proofs.Copying.{copied_then}
 use Rattle.journal_store.proofs.write_entry.Goals as goal
 
 pub returns : goal.returns
 returns c =
-    let given = c.args.dated in
+    let given = c.args in
     rw (← c.entry_at-at.ensures)
-    (copied_then (given.day ∷ kind_word given.kind ∷ given.cell.0 ∷ given.code ∷ given.licence ∷ []) _ _ _ _ _ _ 5 11 16 (rw c.kind_word-kind.ensures at c.copy_words.ensures) c.copy_words-2.ensures (omega arith) refl refl)
+    (copied_then (given.day ∷ given.kind ∷ given.c.0 ∷ given.t ∷ given.licence ∷ []) _ _ _ _ _ _ 5 11 16 c.copy_words.ensures c.copy_words-2.ensures (omega arith) refl refl)

@@ -3,13 +3,13 @@ use Rattle.std.proofs.Common.{arith}
 use Rattle.journal_whole.specs.Checks.{head_good}
 use Rattle.journal_whole.proofs.head_good.Goals as goal
 
-pub returns-then-not-ever_of : goal.returns-then-not-ever_of
+pub returns-then-not-was_entered : goal.returns-then-not-was_entered
 unfolding head_good
-returns-then-not-ever_of c = grind arith
+returns-then-not-was_entered c = grind arith
 
-pub returns-else-not-ever_of : goal.returns-else-not-ever_of
+pub returns-else-not-was_entered : goal.returns-else-not-was_entered
 unfolding head_good
-returns-else-not-ever_of c = grind arith
+returns-else-not-was_entered c = grind arith
 
 pub returns-then-last-le-MOST_DAY : goal.returns-then-last-le-MOST_DAY
 unfolding head_good

@@ -11,4 +11,4 @@ use Rattle.lists.proofs.has.Goals as goal
 pub returns : goal.returns
 returns c =
     rw (has_listed c.args.v c.args.l.now)
-    (any_from_yields_List (λ (x : ℕ). eqb x c.args.v) _ _ _ c.any.ensures.ran (YieldsList-from_slice c.args.l.now cc) (λ x b q k. search (rules, tests)))
+    (any_from_yields_List (λ (x : ℕ). eqb x c.args.v) _ _ _ c.any.ensures.ran (YieldsList-from_slice c.args.l.now (search rules)) (λ x b q k. search (rules, tests)))

@@ -1,14 +1,18 @@
 -- `lists::subset` meets its contract.
-use Prim.Native.Nat.{ℕ}
-use borrow.Author.Rules.{rules}
-use borrow.Author.Tests.{tests}
-use Rattle.std.proofs.lemmas.Iterator.{YieldsList-from_slice}
-use Rattle.std.proofs.lemmas.Iterator.Search.{all_from_yields_List}
-use Rattle.lists.specs.Lists.{has}
-use Rattle.lists.proofs.Tested.{all_listed}
+use borrow.Author.Tests.{not-true, not-false}
+use mathlib.Core.Path.{refl, sym, ◌∙◌}
+use native.Mathlib.Omega.{arith}
+use Rattle.lists.proofs.Scan.{all_stop, all_go, all_end}
 use Rattle.lists.proofs.subset.Goals as goal
 
+pub loop-i-init : goal.loop-i-init
+loop-i-init c = refl
+
+pub returns-then-not-has : goal.returns-then-not-has
+returns-then-not-has c = all_stop _ _ c.loop-i.i c.loop-i.invariant (sym c.has.ensures ∙ not-true _ c.if-not-has.true-raw) (omega arith)
+
+pub loop-i-preserved : goal.loop-i-preserved
+loop-i-preserved c = all_go _ _ c.loop-i.i c.loop-i.invariant (sym c.has.ensures ∙ not-false _ c.if-not-has.false-raw) (omega arith)
+
 pub returns : goal.returns
-returns c =
-    rw (all_listed (λ (x : ℕ). has x c.args.b.now) c.args.a.now)
-    (all_from_yields_List _ _ _ _ c.all.ensures.ran (YieldsList-from_slice c.args.a.now cc) (λ x b q k. search (rules, tests)))
+returns c = all_end _ _ c.loop-i.i c.loop-i.invariant (omega arith)

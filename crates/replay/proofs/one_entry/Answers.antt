@@ -16,5 +16,5 @@ pub returns-in-Some-Remove : goal.returns-in-Some-Remove
 returns-in-Some-Remove c =
     let given = c.args in
     remove_entry given.j.now _ _ given.k _ _ refl c.cell_of.ensures _
-    (told_other _ _ c.kind_of.ensures (elim c.in-Some-Remove-1.branch [ in-Some+in-Remove-1 w ↦ search rules | in-None-1 w ↦ search rules ]))
+    (told_other _ _ c.kind_at.ensures (elim c.in-Some-Remove-1.branch [ in-Some+in-Remove-1 w ↦ search rules | in-None-1 w ↦ search rules ]))
     c.remove.ensures

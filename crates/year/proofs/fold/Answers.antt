@@ -29,4 +29,4 @@ slice_bounds-replay-end-2 c = sym (length-take-le _ _ (cut_fits _ _ (sym c.in_ok
 pub returns : goal.returns
 returns c =
     let year = (allowed _ _ _ _ (sym c.not_allowed.ensures ∙ c.if-not_allowed.false)).year in
-    fold_made _ _ _ _ (sym c.in_ok-caps.was ∙ c.«open».ensures) _ c.is_journal.ensures (not-false _ c.if-not-is_journal.false-raw) _ c.not_allowed.ensures c.if-not_allowed.false _ c.room_of-room.ensures _ _ _ _ _ c.entries_of-n.ensures c.count_up_to-k.ensures c.last_of-last.ensures refl (omega (arith, year, c.last_of-last.ensures)) _ _ _ c.replay.ensures c.move_entries.ensures c.write_head.ensures
+    fold_made _ _ _ _ (sym c.in_ok-caps.was ∙ c.«open».ensures) _ c.is_journal.ensures (not-false _ c.if-not-is_journal.false-raw) _ c.not_allowed.ensures c.if-not_allowed.false _ c.room_of-room.ensures _ _ _ _ _ c.entries_of-n.ensures c.count_up_to-k.ensures c.last_of-last.ensures refl (omega (arith, year, c.last_of-last.ensures)) _ _ _ c.replay.ensures c.move_entries.ensures c.put_head.ensures
